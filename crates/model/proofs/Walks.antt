@@ -24,7 +24,7 @@ pub place-past : {X : Type 0} (before : X → Bool) (f : List X → List X) (xs 
     → take i xs ++ at-place before f (drop i xs) ≡ take (i + 1) xs ++ at-place before f (drop (i + 1) xs)
 place-past before f xs i d h q =
     rw (drop-more xs i d h, take-more xs i d h)
-        (simp q (sym (append-assoc (take i xs) (getD xs i d ∷ []) (at-place before f (drop (i + 1) xs)))))
+    (simp q (sym (append-assoc (take i xs) (getD xs i d ∷ []) (at-place before f (drop (i + 1) xs)))))
 
 pub place-stop : {X : Type 0} (before : X → Bool) (f : List X → List X) (xs : List X) (i : ℕ) (d : X) → i < length xs → before (getD xs i d) ≡ false
     → at-place before f (drop i xs) ≡ f (drop i xs)

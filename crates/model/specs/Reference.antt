@@ -33,8 +33,8 @@ empty = record { readings = []; watermark = 0 }
 abbrev pub plan : Terms → Reference → Command → Result Reference Refusal
 plan t k (A-reading e) =
     cond (too-late t (k .watermark) e) (Err (TooLate (e .time)))
-        (cond (contains t e (k .readings)) (Err (Duplicate (e .time)))
-            (Ok (record { readings = insert-reading t e (k .readings); watermark = k .watermark })))
+    (cond (contains t e (k .readings)) (Err (Duplicate (e .time)))
+    (Ok (record { readings = insert-reading t e (k .readings); watermark = k .watermark })))
 plan t k (Watermark m) = cond (ltb m (k .watermark)) (Err (Backwards m)) (Ok (record { readings = k .readings; watermark = m }))
 
 -- The closed visits, and the ledger of them.

@@ -32,7 +32,9 @@ pub add-shares : (f : Line → ℕ) → ((a b : Line) → f (line-plus a b) ≡ 
 add-shares f plus t l [] = omega (arith, sumBy-cons f l [])
 add-shares f plus t l (x ∷ xs) =
     elim (line-before t x l) as (λ b. sumBy f (cond b (x ∷ add-line t l xs) (add-here t l (x ∷ xs))) ≡ sumBy f (x ∷ xs) + f l) [
-        true ↦ omega (arith, add-shares f plus t l xs, sumBy-cons f x xs, sumBy-cons f x (add-line t l xs))
-        | false ↦ elim (same-key t x l) as (λ b. sumBy f (cond b (line-plus x l ∷ xs) (l ∷ x ∷ xs)) ≡ sumBy f (x ∷ xs) + f l) [
-            true ↦ omega (arith, plus x l, sumBy-cons f x xs, sumBy-cons f (line-plus x l) xs)
-            | false ↦ omega (arith, sumBy-cons f l (x ∷ xs)) ] ]
+      | true ↦ omega (arith, add-shares f plus t l xs, sumBy-cons f x xs, sumBy-cons f x (add-line t l xs))
+      | false ↦ elim (same-key t x l) as (λ b. sumBy f (cond b (line-plus x l ∷ xs) (l ∷ x ∷ xs)) ≡ sumBy f (x ∷ xs) + f l) [
+        | true ↦ omega (arith, plus x l, sumBy-cons f x xs, sumBy-cons f (line-plus x l) xs)
+        | false ↦ omega (arith, sumBy-cons f l (x ∷ xs))
+      ]
+    ]

@@ -12,7 +12,8 @@ use Rattle.visit.specs.declared.Reading.{Reading}
 use Rattle.visit.specs.declared.Terms.{Terms}
 use Rattle.visit.specs.declared.Visit.{Visit}
 use Rattle.visit.specs.Visits.{grown, joins, single}
-use Rattle.model.specs.Sessions.{prepend, visits}
+use Rattle.visit.specs.Readings.{reading-before}
+use Rattle.model.specs.Sessions.{insert-reading, prepend, visits}
 use Rattle.reference.specs.Sums.{amounts, counts, sums}
 
 -- A share f of a visit that comes from its readings' shares g.
@@ -24,8 +25,9 @@ prepend-shares : (f : Visit → ℕ) (g : Reading → ℕ) → Shares f g → (t
 prepend-shares f g s t e [] = rw (sumBy-cons f (single e) [], s .0 e) refl
 prepend-shares f g s t e (v ∷ vs) =
     elim (joins t e v) as (λ b. sumBy f (cond b (grown e v ∷ vs) (single e ∷ v ∷ vs)) ≡ g e + sumBy f (v ∷ vs)) [
-        true ↦ omega (arith, sumBy-cons f (grown e v) vs, sumBy-cons f v vs, s .1 e v)
-        | false ↦ omega (arith, sumBy-cons f (single e) (v ∷ vs), s .0 e) ]
+      | true ↦ omega (arith, sumBy-cons f (grown e v) vs, sumBy-cons f v vs, s .1 e v)
+      | false ↦ omega (arith, sumBy-cons f (single e) (v ∷ vs), s .0 e)
+    ]
 
 pub visits-shares : (f : Visit → ℕ) (g : Reading → ℕ) → Shares f g → (t : Terms) (es : List Reading)
     → sumBy f (visits t es) ≡ sumBy g es
@@ -55,3 +57,15 @@ pub amounts-back : (xs : List Reading) (i : ℕ) (d : Reading) → 0 < i → i �
 amounts-back xs i d p h =
     let g : Reading → ℕ = λ e. e .amount in
     omega (arith, ap amounts (drop-back xs i d p h), sumBy-cons g (getD xs (i - 1) d) (drop i xs), sumBy-take-drop g xs (i - 1))
+
+-- A reading put at its place adds its share.
+pub insert-shares : (g : Reading → ℕ) (t : Terms) (e : Reading) (xs : List Reading) → sumBy g (insert-reading t e xs) ≡ sumBy g xs + g e
+insert-shares g t e [] = omega (arith, sumBy-cons g e [])
+insert-shares g t e (x ∷ xs) =
+    elim (reading-before t x e) as (λ b. sumBy g (cond b (x ∷ insert-reading t e xs) (e ∷ x ∷ xs)) ≡ sumBy g (x ∷ xs) + g e) [
+      | true ↦ omega (arith, insert-shares g t e xs, sumBy-cons g x xs, sumBy-cons g x (insert-reading t e xs))
+      | false ↦ omega (arith, sumBy-cons g e (x ∷ xs))
+    ]
+
+pub insert-length : (t : Terms) (e : Reading) (xs : List Reading) → length (insert-reading t e xs) ≡ length xs + 1
+insert-length t e xs = omega (arith, ones xs, ones (insert-reading t e xs), insert-shares (λ x. 1) t e xs)

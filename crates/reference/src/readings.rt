@@ -3,8 +3,8 @@ ghost use Rattle.model.specs.Sessions.{contains as Contains, insert-reading};
 ghost use Rattle.std.specs.Of.Vec.{vec-items};
 ghost use Rattle.std.specs.Vec.{made};
 ghost use mathlib.Core.Path.{_≡_};
-use crate::order::place;
 use crate::order::ReadingOrdered;
+use crate::order::place;
 use std::alloc::AllocError;
 use std::alloc::Global;
 use visit::Reading;
@@ -22,7 +22,12 @@ pub fn contains(readings: &[Reading], e: Reading, terms: Terms) -> bool
 }
 
 // A copy of the readings with e at its place.
-pub fn inserted(heap: Global, readings: &[Reading], e: Reading, terms: Terms) -> Result<Vec<Reading>, AllocError>
+pub fn inserted(
+    heap: Global,
+    readings: &[Reading],
+    e: Reading,
+    terms: Terms,
+) -> Result<Vec<Reading>, AllocError>
     ensures { λ r. ⌜ made r (λ v. vec-items v ≡ insert-reading terms e (now (readings .entry))) ⌝ }
 {
     let mut all = Vec::from_slice(heap, readings)?;

@@ -8,9 +8,9 @@ use visit::Terms;
 // Few readings with small amounts, so that every sum fits in 64 bits.
 #[derive(Drop)]
 pub struct Reference {
-    pub terms: Terms,
-    pub readings: Vec<Reading>,
-    pub watermark: u64,
+    pub(crate) terms: Terms,
+    pub(crate) readings: Vec<Reading>,
+    pub(crate) watermark: u64,
     ghost few: { vec-len readings < 2 ^ 32 },
     ghost small: { sumBy (λ e. e .amount) (vec-items readings) ≤ vec-len readings * (2 ^ 32) },
 }

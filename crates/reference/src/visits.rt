@@ -1,6 +1,6 @@
 // Visits of readings in order, and the ones of a list that pass a test.
 ghost use Prim.Native.Nat.{_+_, _^_, _<_};
-ghost use Rattle.model.specs.Sessions.{prepend as Prepend, some, visits as Visits};
+ghost use Rattle.model.specs.Sessions.{difference as Difference, prepend as Prepend, some, visits as Visits};
 ghost use Rattle.reference.specs.Sums.{amounts, counts, sums};
 ghost use Rattle.std.specs.Of.Vec.{vec-items, vec-len};
 ghost use Rattle.std.specs.Vec.{made};
@@ -104,4 +104,17 @@ pub fn passing<T: Test>(heap: Global, visits: &[Visit], test: &T) -> Result<Vec<
         }
     }
     Ok(some)
+}
+
+// The visits that are not among others, in order.
+pub fn difference(
+    heap: Global,
+    terms: Terms,
+    visits: &[Visit],
+    from: &[Visit],
+) -> Result<Vec<Visit>, AllocError>
+    ensures { λ r. ⌜ made r (λ v. vec-items v ≡ Difference terms (now (visits .entry)) (now (from .entry))) ⌝ }
+{
+    let missing = Missing { terms, from };
+    passing(heap, visits, &missing)
 }

@@ -21,8 +21,9 @@ plus-requires c κs =
     let found = c .index-found .result .now in
     let within : c .place-at .result < length xs = omega arith in
     record {
-        visits = omega (arith, getD-le-sumBy (λ (l : Line). l .visits) xs (c .place-at .result) found within, ap (λ (l : Line). l .visits) (c .index-found .ensures));
-        sum = omega (arith, getD-le-sumBy (λ (l : Line). l .sum) xs (c .place-at .result) found within, ap (λ (l : Line). l .sum) (c .index-found .ensures)) }
+      visits = omega (arith, getD-le-sumBy (λ (l : Line). l .visits) xs (c .place-at .result) found within, ap (λ (l : Line). l .visits) (c .index-found .ensures));
+      sum = omega (arith, getD-le-sumBy (λ (l : Line). l .sum) xs (c .place-at .result) found within, ap (λ (l : Line). l .sum) (c .index-found .ensures));
+    }
 
 -- What `place` found in the slice, said of the lines.
 abbrev Placed : Terms → Line → List Line → ℕ → Type 0
@@ -42,9 +43,10 @@ returns c =
     let at = c .place-at .result in
     let placed = subst (λ ys. Placed (c .args .terms) (c .args .line) ys at) (c .as-slice .ensures .value) (c .place-at .ensures .splits (add-here (c .args .terms) (c .args .line))) in
     let put : inserted xs at (c .args .line) ≡ take at xs ++ add-here (c .args .terms) (c .args .line) (drop at xs) =
-        elim (c .if-at-len .came) [
-            then-at-len·else-same-key w ↦
-                let within : at < length xs = omega arith in
-                add-between (c .args .terms) (c .args .line) xs at (w .index-found .result .now) within (w .index-found .ensures) (sym (w .if-same-key .ensures tt))
-            | else-at-len w ↦ add-last (c .args .terms) (c .args .line) xs at (omega arith) ] in
+    elim (c .if-at-len .came) [
+      | then-at-len·else-same-key w ↦
+          let within : at < length xs = omega arith in
+          add-between (c .args .terms) (c .args .line) xs at (w .index-found .result .now) within (w .index-found .ensures) (sym (w .if-same-key .ensures tt))
+      | else-at-len w ↦ add-last (c .args .terms) (c .args .line) xs at (omega arith)
+    ] in
     c .in-Continue-insert .ensures tt .items ∙ put ∙ sym placed

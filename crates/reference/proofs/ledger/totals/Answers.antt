@@ -20,9 +20,14 @@ pub add-to-requires : need.add-to-requires
 unfolding none line-of
 add-to-requires c κs =
     record {
-        visits = omega (arith, c .loop-v .inv .1, ap (λ (l : Line). l .visits) (c .line .ensures));
-        sum = omega (arith, c .loop-v .inv .2, ap (λ (l : Line). l .sum) (c .line .ensures),
-            sumBy-drop-more (λ (v : Visit). v .sum) (c .args .visits .now) (c .loop-v .v-index) none (c .loop-v-test .taken)) }
+      visits = omega (arith, c .loop-v .inv .1, ap (λ (l : Line). l .visits) (c .line .ensures));
+      sum = omega (
+        arith,
+        c .loop-v .inv .2,
+        ap (λ (l : Line). l .sum) (c .line .ensures),
+        sumBy-drop-more (λ (v : Visit). v .sum) (c .args .visits .now) (c .loop-v .v-index) none (c .loop-v-test .taken),
+      );
+    }
 
 pub loop-v-again : need.loop-v-again
 unfolding none line-of
@@ -30,14 +35,25 @@ loop-v-again c =
     let vs = c .args .visits .now in
     let i = c .loop-v .v-index in
     let lines = vec-items (c .loop-v .lines) in
-    let more = c .in-Continue-add-to .ensures tt in
-    (ap (add-visits (c .args .terms) (drop (i + 1) vs)) (more ∙ ap (λ l. add-line (c .args .terms) l lines) (c .line .ensures))
-        ∙ sym (at-drop-more (λ ws. add-visits (c .args .terms) ws lines) vs i none (c .loop-v-test .taken)) ∙ c .loop-v .inv .0,
-    omega (arith, c .loop-v .inv .1, ap line-visits more, ap (λ (l : Line). l .visits) (c .line .ensures),
-        add-shares (λ l. l .visits) (λ a b. refl) (c .args .terms) (c .line .result) lines),
-    omega (arith, c .loop-v .inv .2, ap line-sums more, ap (λ (l : Line). l .sum) (c .line .ensures),
+    let more = c .in-Continue-add-to .ensures tt in (
+      ap (add-visits (c .args .terms) (drop (i + 1) vs)) (more ∙ ap (λ l. add-line (c .args .terms) l lines) (c .line .ensures))
+          ∙ sym (at-drop-more (λ ws. add-visits (c .args .terms) ws lines) vs i none (c .loop-v-test .taken)) ∙ c .loop-v .inv .0,
+      omega (
+        arith,
+        c .loop-v .inv .1,
+        ap line-visits more,
+        ap (λ (l : Line). l .visits) (c .line .ensures),
+        add-shares (λ l. l .visits) (λ a b. refl) (c .args .terms) (c .line .result) lines,
+      ),
+      omega (
+        arith,
+        c .loop-v .inv .2,
+        ap line-sums more,
+        ap (λ (l : Line). l .sum) (c .line .ensures),
         add-shares (λ l. l .sum) (λ a b. refl) (c .args .terms) (c .line .result) lines,
-        sumBy-drop-more (λ (v : Visit). v .sum) vs i none (c .loop-v-test .taken)))
+        sumBy-drop-more (λ (v : Visit). v .sum) vs i none (c .loop-v-test .taken),
+      ),
+    )
 
 pub returns : need.returns
 returns c = sym (at-drop-all (λ vs. add-visits (c .args .terms) vs (vec-items (c .loop-v .lines))) (c .args .visits .now) (c .loop-v .v-index) (c .loop-v-test .left)) ∙ c .loop-v .inv .0

@@ -16,17 +16,18 @@ returns-then-not-precedes g c =
     let xs = c .args .items .now in
     let before : g .T .Denot → Bool = λ x. g .T·Ordered .precedes (c .args .terms) x (c .args .item) in
     let stops : before (getD xs (c .loop-i .i) (c .index-items-i .result)) ≡ false =
-            ap before (sym (c .index-items-i .is)) ∙ sym (c .precedes .ensures) ∙ c .if-not-precedes .taken in
+    ap before (sym (c .index-items-i .is)) ∙ sym (c .precedes .ensures) ∙ c .if-not-precedes .taken in
     record {
-        within = omega arith;
-        splits = λ f. c .loop-i .inv f ∙ ap (λ l. take (c .loop-i .i) xs ++ l) (place-stop before f xs (c .loop-i .i) _ (c .loop-i-test .taken) stops) }
+      within = omega arith;
+      splits = λ f. c .loop-i .inv f ∙ ap (λ l. take (c .loop-i .i) xs ++ l) (place-stop before f xs (c .loop-i .i) _ (c .loop-i-test .taken) stops);
+    }
 
 pub loop-i-again : need.loop-i-again
 loop-i-again g c =
     let xs = c .args .items .now in
     let before : g .T .Denot → Bool = λ x. g .T·Ordered .precedes (c .args .terms) x (c .args .item) in
     let passes : before (getD xs (c .loop-i .i) (c .index-items-i .result)) ≡ true =
-            ap before (sym (c .index-items-i .is)) ∙ sym (c .precedes .ensures) ∙ c .if-not-precedes .left in
+    ap before (sym (c .index-items-i .is)) ∙ sym (c .precedes .ensures) ∙ c .if-not-precedes .left in
     λ f. c .loop-i .inv f ∙ place-past before f xs (c .loop-i .i) _ (c .loop-i-test .taken) passes
 
 pub returns : need.returns
@@ -35,6 +36,7 @@ returns g c =
     let before : g .T .Denot → Bool = λ x. g .T·Ordered .precedes (c .args .terms) x (c .args .item) in
     let end : c .loop-i .i ≡ length xs = omega arith in
     record {
-        within = omega arith;
-        splits = λ f. subst (λ (n : ℕ). at-place before f xs ≡ take n xs ++ f (drop n xs)) end
-            (c .loop-i .inv f ∙ ap (λ l. take (c .loop-i .i) xs ++ l) (place-end before f xs (c .loop-i .i) (c .loop-i-test .left))) }
+      within = omega arith;
+      splits = λ f. subst (λ (n : ℕ). at-place before f xs ≡ take n xs ++ f (drop n xs)) end
+          (c .loop-i .inv f ∙ ap (λ l. take (c .loop-i .i) xs ++ l) (place-end before f xs (c .loop-i .i) (c .loop-i-test .left)));
+    }

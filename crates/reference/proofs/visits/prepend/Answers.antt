@@ -14,18 +14,19 @@ pub grown-requires : need.grown-requires
 grown-requires c κs =
     let init = vec-items (c .pop .last .self) in
     let turned : reverse (vec-items (c .args .backwards .now)) ≡ c .in-Some .front ∷ reverse init =
-            ap reverse (c .in-Some .ensures tt .items) ∙ reverse-append init (c .in-Some .front ∷ []) in
+    ap reverse (c .in-Some .ensures tt .items) ∙ reverse-append init (c .in-Some .front ∷ []) in
     record {
-        count = omega (arith, ap counts turned, sumBy-cons (λ (v : Visit). v .count) (c .in-Some .front) (reverse init));
-        sum = omega (arith, ap sums turned, sumBy-cons (λ (v : Visit). v .sum) (c .in-Some .front) (reverse init)) }
+      count = omega (arith, ap counts turned, sumBy-cons (λ (v : Visit). v .count) (c .in-Some .front) (reverse init));
+      sum = omega (arith, ap sums turned, sumBy-cons (λ (v : Visit). v .sum) (c .in-Some .front) (reverse init));
+    }
 
 pub returns-in-Continue-push-2 : need.returns-in-Continue-push-2
 returns-in-Continue-push-2 c =
     prepend-joins (c .args .terms) (c .args .e) (vec-items (c .args .backwards .now)) (vec-items (c .pop .last .self)) _ (c .in-Some .front)
-        (c .in-Some .ensures tt .items) (sym (c .if-joins .ensures tt)) (simp (c .grown .ensures) at (c .in-Continue-push-2 .ensures tt .items))
+    (c .in-Some .ensures tt .items) (sym (c .if-joins .ensures tt)) (simp (c .grown .ensures) at (c .in-Continue-push-2 .ensures tt .items))
 
 pub returns-in-Continue-push-4 : need.returns-in-Continue-push-4
 returns-in-Continue-push-4 c =
     prepend-apart (c .args .terms) (c .args .e) (vec-items (c .args .backwards .now)) (vec-items (c .pop .last .self)) _ (c .in-Some .front)
-        (c .in-Some .ensures tt .items) (sym (c .if-joins .ensures tt))
-        (simp (c .single-else-joins .ensures, c .in-Continue-push-3 .ensures tt .items) at (c .in-Continue-push-4 .ensures tt .items))
+    (c .in-Some .ensures tt .items) (sym (c .if-joins .ensures tt))
+    (simp (c .single-else-joins .ensures, c .in-Continue-push-3 .ensures tt .items) at (c .in-Continue-push-4 .ensures tt .items))

@@ -19,9 +19,14 @@ unfolding none
 prepend-requires c κs =
     let rest = drop (c .loop-i .i) (c .args .readings .now) in
     record {
-        count = omega (arith, ap counts (c .loop-i .inv), visits-counts (c .args .terms) rest, length-drop (c .loop-i .i) (c .args .readings .now));
-        sum = omega (arith, ap sums (c .loop-i .inv), visits-sums (c .args .terms) rest,
-            amounts-back (c .args .readings .now) (c .loop-i .i) none (c .loop-i-test .taken) (c .loop-i .kept .i)) }
+      count = omega (arith, ap counts (c .loop-i .inv), visits-counts (c .args .terms) rest, length-drop (c .loop-i .i) (c .args .readings .now));
+      sum = omega (
+        arith,
+        ap sums (c .loop-i .inv),
+        visits-sums (c .args .terms) rest,
+        amounts-back (c .args .readings .now) (c .loop-i .i) none (c .loop-i-test .taken) (c .loop-i .kept .i),
+      );
+    }
 
 pub loop-i-again : need.loop-i-again
 unfolding none
