@@ -1,0 +1,4 @@
+mod Places
+mod Rows
+pub mod Encoding
+pub mod Decoding

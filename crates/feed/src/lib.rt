@@ -1,0 +1,2 @@
+// Command files: decoding and encoding; and the text of answers and of the ledger.
+pub mod files;
