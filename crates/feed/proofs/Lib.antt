@@ -2,3 +2,4 @@ mod Places
 mod Rows
 pub mod Encoding
 pub mod Decoding
+mod Printing
