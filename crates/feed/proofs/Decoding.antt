@@ -7,11 +7,12 @@ use native.Mathlib.Omega.{arith}
 use lib.Dec.{eqb, ltb}
 use lib.ListN.{length, drop, getD, length-drop}
 use Rattle.std.proofs.shelf.Ways.{tells}
-use Rattle.std.specs.Options.{Cases}
+use Rattle.std.proofs.shelf.Lists.{drop-drop}
+use Rattle.std.specs.Options.{Cases, mapped}
 use Rattle.std.specs.declared.option.Option.{Option}
 use Rattle.std.specs.declared.option.Option.the-variants.{Some, None}
 use Rattle.command.specs.declared.Command.{Command}
-use Rattle.feed.specs.Files.{commands, decoded, followed, parsed, reading-in, unread, watermark-in, whole}
+use Rattle.feed.specs.Files.{commands, decoded, decoded-at, ending, followed, parsed, reading-in, unread, watermark-in, whole}
 
 -- A command that is whole takes some bytes, and no more than there are.
 whole-size : (n : ℕ) (c : Command) (bs : List ℕ) → 0 < n → Cases (whole n c bs) (Unit {0}) (λ d. (0 < d .1) × (d .1 ≤ length bs))
@@ -24,7 +25,7 @@ decoded-size bs = grind (arith, tells, whole-size 21 (reading-in bs) bs (omega a
 pub size-bound : (bs : List ℕ) (c : Command) (k : ℕ) → decoded bs ≡ Some (c, k) → (0 < k) × (k ≤ length bs)
 size-bound bs c k e = subst (λ (o : Option (Command × ℕ)). Cases o (Unit {0}) (λ d. (0 < d .1) × (d .1 ≤ length bs))) e (decoded-size bs)
 
-decoded-empty : (bs : List ℕ) → length bs ≤ 0 → decoded bs ≡ None
+pub decoded-empty : (bs : List ℕ) → length bs ≤ 0 → decoded bs ≡ None
 unfolding decoded
 decoded-empty [] h = refl
 decoded-empty (b ∷ bs) h = absurd (omega arith)
@@ -72,3 +73,45 @@ commands-end bs e = ap (λ (p : List Command × ℕ). p .0) (parsed-none (length
 pub unread-end : (bs : List ℕ) → decoded bs ≡ None → unread bs ≡ length bs
 unfolding unread
 unread-end bs e = ap (λ (p : List Command × ℕ). p .1) (parsed-none (length bs) bs e)
+
+-- The same where the bytes are read from byte i on.
+at-some : (i : ℕ) (bs : List ℕ) (c : Command) (n : ℕ) (o : Option (Command × ℕ)) → mapped (ending i) o ≡ Some (c, n) → (k : ℕ) × (o ≡ Some (c, k)) × (i + k ≡ n)
+at-some i bs c n None e = let z : _≡_ {A = ℕ} 0 1 = cc in absurd (omega arith)
+at-some i bs c n (Some d) e =
+    let p : ending i d ≡ (c, n) = cc in
+    (d .1, ap (λ (x : Command). Some (x, d .1)) (ap (λ (x : Command × ℕ). x .0) p), ap (λ (x : Command × ℕ). x .1) p)
+
+at-none : (i : ℕ) (o : Option (Command × ℕ)) → mapped (ending i) o ≡ None → o ≡ None
+at-none i None e = refl
+at-none i (Some d) e = let z : _≡_ {A = ℕ} 0 1 = cc in absurd (omega arith)
+
+pub commands-from : (i : ℕ) (bs : List ℕ) (c : Command) (n : ℕ) → decoded-at i bs ≡ Some (c, n) → commands (drop i bs) ≡ c ∷ commands (drop n bs)
+commands-from i bs c n e =
+    let p = at-some i bs c n (decoded (drop i bs)) e in
+    let q : drop (p .0) (drop i bs) ≡ drop n bs = drop-drop (p .0) i bs ∙ ap (λ (m : ℕ). drop m bs) (p .2) in
+    commands-next (drop i bs) c (p .0) (p .1) ∙ ap (λ (l : List ℕ). c ∷ commands l) q
+
+pub unread-from : (i : ℕ) (bs : List ℕ) (c : Command) (n : ℕ) → decoded-at i bs ≡ Some (c, n) → unread (drop i bs) ≡ unread (drop n bs)
+unread-from i bs c n e =
+    let p = at-some i bs c n (decoded (drop i bs)) e in
+    let q : drop (p .0) (drop i bs) ≡ drop n bs = drop-drop (p .0) i bs ∙ ap (λ (m : ℕ). drop m bs) (p .2) in
+    unread-next (drop i bs) c (p .0) (p .1) ∙ ap unread q
+
+pub commands-from-end : (i : ℕ) (bs : List ℕ) → decoded-at i bs ≡ None → commands (drop i bs) ≡ []
+commands-from-end i bs e = commands-end (drop i bs) (at-none i (decoded (drop i bs)) e)
+
+pub unread-from-end : (i : ℕ) (bs : List ℕ) → decoded-at i bs ≡ None → unread (drop i bs) ≡ length bs - i
+unread-from-end i bs e = unread-end (drop i bs) (at-none i (decoded (drop i bs)) e) ∙ length-drop i bs
+
+-- No more bytes are left than there are.
+parsed-within : (n : ℕ) (bs : List ℕ) → parsed n bs .1 ≤ length bs
+parsed-within zero bs = omega arith
+parsed-within (suc n) bs =
+    elim (decoded bs) as (λ o. followed (parsed n) bs o .1 ≤ length bs) [
+      | None ↦ omega arith
+      | Some d ↦ omega (arith, parsed-within n (drop (d .1) bs), length-drop (d .1) bs)
+    ]
+
+pub unread-bound : (bs : List ℕ) → unread bs ≤ length bs
+unfolding unread
+unread-bound bs = parsed-within (length bs) bs

@@ -2,9 +2,9 @@
 use mathlib.Core.Bool.{Bool, true, cond, _&&_}
 use mathlib.Core.List.{List, [], _∷_, _++_}
 use mathlib.Core.Path.{_≡_}
-use Prim.Native.Nat.{ℕ, zero, suc, _+_, _^_, _<_}
+use Prim.Native.Nat.{ℕ, zero, suc, _+_, _-_, _^_, _<_}
 use lib.Dec.{eqb, ltb}
-use lib.ListN.{length, drop, getD}
+use lib.ListN.{length, take, drop, getD}
 use Rattle.std.specs.Options.{mapped}
 use Rattle.std.specs.declared.option.Option.{Option}
 use Rattle.std.specs.declared.option.Option.the-variants.{Some, None}
@@ -40,9 +40,13 @@ decoded bs =
     cond (eqb (getD bs 0 0) 0) (whole 21 (reading-in bs) bs)
     (cond (eqb (getD bs 0 0) 1) (whole 9 (watermark-in bs) bs) None)
 
+-- A command with where it ends, if it begins at byte i.
+abbrev pub ending : ℕ → Command × ℕ → Command × ℕ
+ending i d = (d .0, i + d .1)
+
 -- The command that begins at byte i, and where the next begins.
 abbrev pub decoded-at : ℕ → List ℕ → Option (Command × ℕ)
-decoded-at i bs = mapped (λ (d : Command × ℕ). (d .0, i + d .1)) (decoded (drop i bs))
+decoded-at i bs = mapped (ending i) (decoded (drop i bs))
 
 -- The command that is decoded, with what is parsed behind it; else nothing, and all bytes are left.
 abbrev pub followed : (List ℕ → List Command × ℕ) → List ℕ → Option (Command × ℕ) → List Command × ℕ
@@ -81,3 +85,8 @@ pub record Round-trip : Type 0 where
   pub terms : (t : Terms) (rest : List ℕ) → t .gap < 2 ^ 64 → t .lateness < 2 ^ 64 → t .day < 2 ^ 64 → terms-in (terms-bytes t ++ rest) ≡ Some t
   pub command : (c : Command) (rest : List ℕ) → storable c ≡ true → decoded (command-bytes c ++ rest) ≡ Some (c, length (command-bytes c))
   pub whole-file : (cs : List Command) → All (λ c. storable c ≡ true) cs → (commands (joined command-bytes cs) ≡ cs) × (unread (joined command-bytes cs) ≡ 0)
+
+-- Nothing is lost: a command that is read is storable, and written again it is the bytes that were read.
+pub record Lossless : Type 0 where
+  pub command : (bs : List ℕ) (c : Command) (k : ℕ) → All (λ b. b < 256) bs → decoded bs ≡ Some (c, k) → (command-bytes c ≡ take k bs) × (storable c ≡ true)
+  pub whole-file : (bs : List ℕ) → All (λ b. b < 256) bs → joined command-bytes (commands bs) ++ drop (length bs - unread bs) bs ≡ bs

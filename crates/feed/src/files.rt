@@ -1,7 +1,7 @@
 // Command files: gap, lateness and day length, then the commands. All numbers stand low byte first.
 ghost use Prim.Native.Nat.{_+_, _^_, _<_, _≤_};
 ghost use Rattle.feed.specs.Bytes.{number-at};
-ghost use Rattle.feed.specs.Files.{Round-trip, command-bytes, decoded, decoded-at, storable, terms-bytes, terms-in};
+ghost use Rattle.feed.specs.Files.{Lossless, Round-trip, command-bytes, decoded, decoded-at, storable, terms-bytes, terms-in};
 ghost use Rattle.std.specs.Of.Vec.{vec-items};
 ghost use Rattle.std.specs.Results.{Cases, isOk};
 ghost use Rattle.std.specs.Slices.{found};
@@ -171,4 +171,9 @@ pub fn put_command(out: &mut Vec<u8>, command: Command) -> Result<(), EncodeErro
 // What is written is read again.
 pub fn round_trip()
     ensures { λ _. ⌜ Round-trip ⌝ }
+{}
+
+// Of bytes that are read nothing is lost: their commands, written again, are those bytes.
+pub fn lossless()
+    ensures { λ _. ⌜ Lossless ⌝ }
 {}
