@@ -1,0 +1,3 @@
+// Command files: decoding and encoding; and the text of answers and of the ledger.
+pub mod files;
+pub mod text;
