@@ -6,7 +6,7 @@
 # status 1 if anything differs, 2 if something is missing or cannot be built.
 #
 # SETTLE and RECOMPUTE give other paths for the programs; set but empty leaves that one out.
-# --slow adds slow.py, which takes some 30 ms a day.
+# --slow adds slow.py, which takes some 0.1 s a day.
 set -euo pipefail
 
 here=$(cd "$(dirname "${BASH_SOURCE[0]}")" && pwd)

@@ -132,13 +132,13 @@ impl Shape {
             commands,
             cards: (0..card_count).map(|_| card(chance)).collect(),
             serials: chance.pick(&[1, 2, 2, 5]),
-            start: match chance.below(12) {
+            start: match chance.below(24) {
                 0 => TIME_BOUND - chance.between(1, 300),
-                1 => chance.below(TIME_BOUND),
-                2 => 0,
+                1 | 2 => chance.below(TIME_BOUND),
+                3 | 4 => 0,
                 _ => chance.below(200),
             },
-            pace: chance.pick(&[0, 1, 2, 5, 20, small * 4]),
+            pace: chance.pick(&[0, 1, 2, 3, 5, 10, 20, small * 4]),
             spread: chance.pick(&[0, 2, 10, small * 2, small * 8]),
             watermarks: chance.pick(&[3, 10, 20, 35, 60]),
             duplicates: chance.pick(&[0, 5, 10, 30]),
@@ -417,7 +417,7 @@ impl Day<'_> {
             self.burst = self.chance.between(2, 8);
         }
         self.burst = self.burst.checked_sub(1)?;
-        let last = self.last?;
+        let last = self.last.filter(|last| last.time < TIME_BOUND)?;
         let pause = match self.chance.below(4) {
             0 => 0,
             1 => self.chance.edge(self.shape.gap),

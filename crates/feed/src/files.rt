@@ -47,7 +47,8 @@ fn long_at(bytes: &[u8], at: usize) -> u64
 
 // The terms at the front of a file, unless it is too short for them.
 pub fn read_terms(bytes: &[u8]) -> Option<Terms>
-    ensures { λ r. ⌜ r ≡ terms-in (now (bytes .entry)) ⌝ }
+    ensures value { λ r. ⌜ r ≡ terms-in (now (bytes .entry)) ⌝ }
+    ensures bound { λ r. ⌜ found r (λ _. 24 ≤ length (now (bytes .entry))) ⌝ }
 {
     if bytes.len() < TERMS_SIZE {
         return None;

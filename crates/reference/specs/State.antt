@@ -12,6 +12,9 @@ use Rattle.reference.specs.declared.state.Reference.{Reference}
 abbrev pub model-of : Reference → Model
 model-of r = record { readings = vec-items (r .readings); watermark = r .watermark }
 
+abbrev pub terms-of : Reference → Terms
+terms-of r = r .terms
+
 -- A next state or a refusal, as the model has it.
 abbrev pub planned : Result Reference Refusal → Result Model Refusal
 planned (Ok next) = Ok (model-of next)
