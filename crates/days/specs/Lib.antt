@@ -1,0 +1,5 @@
+pub mod Words
+pub mod Numbers
+pub mod Parsing
+pub mod Writing
+pub mod RoundTrip
