@@ -1,4 +1,4 @@
-mod Splitting
 mod Digits
+pub mod RoundTrip
+mod Splitting
 mod Steps
-mod Back

@@ -61,10 +61,6 @@ day-nil n = refl
 abbrev pub behind : List Command → Result (List Command) BadLine → Result (List Command) BadLine
 behind done left = then left (λ cs. Ok (done ++ cs))
 
-pub behind-none : (r : Result (List Command) BadLine) → r ≡ behind [] r
-behind-none (Ok cs) = refl
-behind-none (Err b) = refl
-
 behind-more : (done : List Command) (c : Command) (r : Result (List Command) BadLine) → behind done (then r (λ cs. Ok (c ∷ cs))) ≡ behind (done ++ c ∷ []) r
 behind-more done c (Ok cs) = ap (λ (l : List Command). Ok l) (sym (append-assoc done (c ∷ []) cs))
 behind-more done c (Err b) = refl
@@ -78,8 +74,10 @@ unfolding commands-from
 commands-blank n l ls o = simp o
 
 module _ {xs code next : List ℕ} {bare : Bool} (done : List Command) (n : ℕ) (h : Turn xs code next bare) where
-  pub commands-skip : bare ≡ true → behind done (commands-from n (lines xs)) ≡ behind done (commands-from (n + 1) (lines next))
-  commands-skip o = ap (λ (ls : List (List ℕ)). behind done (commands-from n ls)) (h .rest) ∙ ap (behind done) (commands-blank n _ _ (bare-line h o))
+  pub commands-skip : (all : List Command) → bare ≡ true → all ≡ done → behind done (commands-from n (lines xs)) ≡ behind all (commands-from (n + 1) (lines next))
+  commands-skip all o same =
+      ap (λ (ls : List (List ℕ)). behind done (commands-from n ls)) (h .rest) ∙ ap (behind done) (commands-blank n _ _ (bare-line h o))
+      ∙ ap (λ (d : List Command). behind d (commands-from (n + 1) (lines next))) (sym same)
 
   commands-read : (r : Result Command Reason) → bare ≡ false → r ≡ parsed-command (words code) → behind done (commands-from n (lines xs)) ≡ behind done (then (at-line n r) (λ c. then (commands-from (n + 1) (lines next)) (λ cs. Ok (c ∷ cs))))
   commands-read r o read =
@@ -89,11 +87,12 @@ module _ {xs code next : List ℕ} {bare : Bool} (done : List Command) (n : ℕ)
       ∙ ap (λ (s : Result Command Reason). then (at-line n s) (λ c. then (commands-from (n + 1) (lines next)) (λ cs. Ok (c ∷ cs))))
       (ap (λ (w : List ℕ). parsed-command (words w)) (sym (h .line)) ∙ sym read))
 
-  pub commands-more : (r : Result Command Reason) (c : Command) → bare ≡ false → r ≡ parsed-command (words code) → Ok c ≡ at-line n r → behind done (commands-from n (lines xs)) ≡ behind (done ++ c ∷ []) (commands-from (n + 1) (lines next))
-  commands-more r c o read got =
+  pub commands-more : (r : Result Command Reason) (c : Command) (all : List Command) → bare ≡ false → r ≡ parsed-command (words code) → Ok c ≡ at-line n r → all ≡ done ++ c ∷ [] → behind done (commands-from n (lines xs)) ≡ behind all (commands-from (n + 1) (lines next))
+  commands-more r c all o read got put =
       commands-read r o read
       ∙ ap (λ (s : Result Command BadLine). behind done (then s (λ c. then (commands-from (n + 1) (lines next)) (λ cs. Ok (c ∷ cs))))) (sym got)
       ∙ behind-more done c (commands-from (n + 1) (lines next))
+      ∙ ap (λ (d : List Command). behind d (commands-from (n + 1) (lines next))) (sym put)
 
   pub commands-bad : (r : Result Command Reason) (b : BadLine) → bare ≡ false → r ≡ parsed-command (words code) → Err b ≡ at-line n r → behind done (commands-from n (lines xs)) ≡ Err b
   commands-bad r b o read got =

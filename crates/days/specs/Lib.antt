@@ -1,5 +1,6 @@
-pub mod Words
 pub mod Numbers
+pub mod Outcomes
 pub mod Parsing
-pub mod Writing
 pub mod RoundTrip
+pub mod Words
+pub mod Writing

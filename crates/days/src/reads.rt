@@ -1,6 +1,8 @@
 // Lines read as terms and commands, and the loops over the lines of a day.
 ghost use Prim.Native.Nat.{_+_, _<_, _^_};
-ghost use Rattle.days.specs.Parsing.{Commands-read, Opens, Parsed, at-line, commands-from, parsed-command, parsed-day, parsed-reading, parsed-terms, parsed-watermark};
+ghost use Rattle.days.specs.Outcomes.{Commands-read, Opens, Parsed};
+ghost use Rattle.days.specs.Parsing.{at-line, commands-from, parsed-command, parsed-reading, parsed-terms, parsed-watermark};
+ghost use Rattle.days.specs.RoundTrip.{Parses-back};
 ghost use Rattle.days.specs.Words.{lines, words};
 ghost use lib.ListN.{length};
 ghost use mathlib.Core.Path.{_≡_};
@@ -137,13 +139,11 @@ fn read_commands(heap: Global, text: &[u8], first: u64) -> Result<Vec<Command>, 
     Ok(found)
 }
 
-// A text of 2^64 - 1 bytes fits no memory; below that every line number fits.
+// `back` is the theorem that a written day, with every number below its limit, is read back as that day.
 pub fn parse(heap: Global, text: &[u8]) -> Result<Day, ParseError>
-    ensures { λ r. ⌜ Parsed (now (text .entry)) r ⌝ }
+    ensures parsed { λ r. ⌜ Parsed (now (text .entry)) r ⌝ }
+    ensures back { λ _. ⌜ Parses-back ⌝ }
 {
-    if text.len() == usize::MAX {
-        return Err(ParseError::NoMemory);
-    }
     let opened = open_day(text)?;
     let commands = read_commands(heap, opened.rest, opened.line)?;
     Ok(Day {

@@ -49,8 +49,8 @@ pub impl fmt::Display for CommandLine as CommandLineDisplay {
 pub fn put_terms(text: &mut String, terms: Terms) -> Result<(), AllocError>
     ensures { λ r. ⌜ made r (λ _. string-bytes (now (text .exit)) ≡ string-bytes (now (text .entry)) ++ terms-text terms) ⌝ }
 {
-    let line = TermsLine(terms);
-    match writeln!(text, "{line}") {
+    let terms = TermsLine(terms);
+    match writeln!(text, "{terms}") {
         Ok(()) => Ok(()),
         Err(_) => Err(AllocError),
     }
@@ -59,8 +59,8 @@ pub fn put_terms(text: &mut String, terms: Terms) -> Result<(), AllocError>
 pub fn put_command(text: &mut String, command: Command) -> Result<(), AllocError>
     ensures { λ r. ⌜ made r (λ _. string-bytes (now (text .exit)) ≡ string-bytes (now (text .entry)) ++ command-text command) ⌝ }
 {
-    let line = CommandLine(command);
-    match writeln!(text, "{line}") {
+    let command = CommandLine(command);
+    match writeln!(text, "{command}") {
         Ok(()) => Ok(()),
         Err(_) => Err(AllocError),
     }

@@ -1,17 +1,14 @@
 use mathlib.Core.Path.{_≡_, sym, ap, _∙_}
 use mathlib.Core.List.{List, []}
-use Prim.Native.Nat.{ℕ, _+_}
+use Prim.Native.Nat.{ℕ}
 use native.Mathlib.Omega.{arith}
 use Rattle.std.specs.Of.Vec.{vec-items}
-use Rattle.std.specs.declared.result.Result.{Result}
-use Rattle.command.specs.declared.Command.{Command}
-use Rattle.days.specs.declared.BadLine.{BadLine}
 use Rattle.std.proofs.shelf.Lists.{nil-from-length}
 use Rattle.std.proofs.shelf.Results.{err-from-errBy}
 use Rattle.std.proofs.shelf.Ways.{tells}
 use Rattle.days.specs.Parsing.{commands-from}
 use Rattle.days.specs.Words.{lines}
-use Rattle.days.proofs.Steps.{Turn, behind, behind-none, commands-bad, commands-more, commands-nil, commands-skip}
+use Rattle.days.proofs.Steps.{Turn, behind, commands-bad, commands-more, commands-nil, commands-skip}
 use Rattle.days.proofs.reads.read_commands.Needs as need
 use Rattle.days.proofs.reads.read_commands.Needs.{After-has-words, then-not-has-words·in-Continue-command·in-Continue-push, else-not-has-words}
 
@@ -27,14 +24,14 @@ returns-in-Break-command c =
 
 pub loop-rest-again : need.loop-rest-again
 loop-rest-again c =
-    let h = turn (need.at·loop-rest-again c .After-has-words) in
-    let put : List Command → Result (List Command) BadLine = λ done. behind done (commands-from (c .loop-rest .line + 1) (lines (c .next-line .result .1 .now))) in (
+    let h = turn (need.at·loop-rest-again c .After-has-words) in (
       elim (c .if-not-has-words .came) [
         | then-not-has-words·in-Continue-command·in-Continue-push w ↦
             c .loop-rest .inv .0
-            ∙ commands-more _ (c .loop-rest .line) h _ _ (w .if-not-has-words .taken) (w .command-in .ensures) (w .in-Continue-command .ensures tt)
-            ∙ ap put (sym (w .in-Continue-push .ensures tt .items) ∙ ap vec-items (sym (w .found-is)))
-        | else-not-has-words w ↦ c .loop-rest .inv .0 ∙ commands-skip _ (c .loop-rest .line) h (w .if-not-has-words .left) ∙ ap (λ v. put (vec-items v)) (sym (w .found-is))
+            ∙ commands-more _ (c .loop-rest .line) h _ _ (vec-items (c .if-not-has-words .found)) (w .if-not-has-words .taken) (w .command-in .ensures) (w .in-Continue-command .ensures tt) (ap vec-items (w .found-is) ∙ w .in-Continue-push .ensures tt .items)
+        | else-not-has-words w ↦
+            c .loop-rest .inv .0
+            ∙ commands-skip _ (c .loop-rest .line) h (vec-items (c .if-not-has-words .found)) (w .if-not-has-words .left) (ap vec-items (w .found-is))
       ],
       omega arith,
     )

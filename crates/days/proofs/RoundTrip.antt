@@ -108,3 +108,57 @@ decimal-clean n h = let d = digits-decimal own n h in (decimal-filled n h, (digi
 number-back : (limit n : ℕ) → n < limit → n < 2 ^ 64 → number-in limit (decimal n) ≡ Ok n
 number-back limit n l h =
     let below : ltb n limit ≡ true = grind (arith, tells) in simp (decimal-filled n h, digits-decimal own n h, value-decimal own n h, below)
+
+terms-clean : (t : Terms) → Terms-fit t → All Clean (terms-words t)
+terms-clean t f = (
+  (refl, ((refl, (refl, (refl, (refl, (refl, tt))))), ((refl, refl), ((refl, refl), ((refl, refl), ((refl, refl), ((refl, refl), tt))))))),
+  (decimal-clean _ (f .0), (decimal-clean _ (f .1), (decimal-clean _ (f .2), tt))),
+)
+
+terms-back : (t : Terms) → Terms-fit t → parsed-terms (terms-words t) ≡ Ok t
+terms-back t f =
+    simp (number-back number-limit (t .gap) (f .0) (f .0), number-back number-limit (t .lateness) (f .1) (f .1), number-back number-limit (t .day) (f .2) (f .2))
+
+word-fits : (n : ℕ) → n < word-limit → n < 2 ^ 64
+word-fits n h = omega arith
+
+command-clean : (c : Command) → Command-fits c → All Clean (command-words c)
+command-clean (Reading e) f = (
+  (refl, (search needs, search needs)),
+  (decimal-clean _ (word-fits _ (f .0)), (decimal-clean _ (f .1), (decimal-clean _ (word-fits _ (f .2)), (decimal-clean _ (word-fits _ (f .3)), tt)))),
+)
+command-clean (Watermark m) f = ((refl, (search needs, search needs)), (decimal-clean _ f, tt))
+
+command-back : (c : Command) → Command-fits c → parsed-command (command-words c) ≡ Ok c
+command-back (Reading e) f =
+    simp (number-back word-limit (e .card) (f .0) (word-fits _ (f .0)), number-back number-limit (e .time) (f .1) (f .1), number-back word-limit (e .serial) (f .2) (word-fits _ (f .2)), number-back word-limit (e .amount) (f .3) (word-fits _ (f .3)))
+command-back (Watermark m) f = simp (number-back number-limit m f f)
+
+command-some : (c : Command) → eqb (length (command-words c)) 0 ≡ false
+command-some (Reading e) = refl
+command-some (Watermark m) = refl
+
+commands-none : (n : ℕ) → commands-from n (lines []) ≡ Ok []
+unfolding commands-from lines
+commands-none n = refl
+
+commands-back : (n : ℕ) (cs : List Command) → All Command-fits cs → commands-from n (lines (joined command-text cs)) ≡ Ok cs
+commands-back n [] a = commands-none n
+commands-back n (c ∷ cs) a =
+    let ws = command-words c in
+    let clean = command-clean c (a .0) in
+    let left = commands-from (n + 1) (lines (joined command-text cs)) in
+    ap (commands-from n) (lines-back ws (joined command-text cs) clean)
+    ∙ commands-line n (spaced ws) (lines (joined command-text cs)) (ap (λ (v : List (List ℕ)). eqb (length v) 0) (words-back ws clean) ∙ command-some c)
+    ∙ ap (λ (r : Result Command Reason). then (at-line n r) (λ c. then left (λ cs. Ok (c ∷ cs)))) (ap parsed-command (words-back ws clean) ∙ command-back c (a .0))
+    ∙ ap (λ (r : Result (List Command) BadLine). then r (λ cs. Ok (c ∷ cs))) (commands-back (n + 1) cs (a .1))
+
+pub parses-back : Parses-back
+parses-back t cs f a =
+    let ws = terms-words t in
+    let clean = terms-clean t f in
+    let left = commands-from 2 (lines (joined command-text cs)) in
+    ap (day-from 1) (lines-back ws (joined command-text cs) clean)
+    ∙ day-line 1 (spaced ws) (lines (joined command-text cs)) (ap (λ (v : List (List ℕ)). eqb (length v) 0) (words-back ws clean))
+    ∙ ap (λ (r : Result Terms Reason). then (at-line 1 r) (λ t. then left (λ cs. Ok (t, cs)))) (ap parsed-terms (words-back ws clean) ∙ terms-back t f)
+    ∙ ap (λ (r : Result (List Command) BadLine). then r (λ cs. Ok (t, cs))) (commands-back 2 cs a)
