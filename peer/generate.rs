@@ -399,7 +399,8 @@ impl Day<'_> {
             true => u32::MAX,
             false => self.chance.below(self.shape.serials) as u32,
         };
-        Reading { card: self.chance.pick(&self.shape.cards), time, serial, amount: amount(self.chance) }
+        let card = self.chance.pick(&self.shape.cards);
+        Reading { card, time, serial, amount: amount(self.chance) }
     }
 
     fn time(&mut self) -> u64 {
@@ -500,9 +501,10 @@ fn spoil_terms(file: &mut [u8], chance: &mut Chance) {
 
 fn cut_last_command(file: &mut Vec<u8>, chance: &mut Chance) {
     let mut last = Vec::new();
+    let time = chance.below(1_000);
     let command = match chance.percent(50) {
-        true => Command::Watermark(chance.below(1_000)),
-        false => Command::Reading(Reading { card: 1, time: chance.below(1_000), serial: 0, amount: 1 }),
+        true => Command::Watermark(time),
+        false => Command::Reading(Reading { card: 1, time, serial: 0, amount: 1 }),
     };
     write_command(&command, &mut last);
     last.truncate(chance.between(1, last.len() as u64 - 1) as usize);

@@ -21,6 +21,7 @@ const TERMS_LENGTH: usize = 24;
 const READING_LENGTH: usize = 21;
 const WATERMARK_LENGTH: usize = 9;
 
+#[derive(Default)]
 struct Terms {
     gap: u64,
     lateness: u64,
@@ -122,25 +123,15 @@ struct Line {
 }
 
 /// Why a command is not taken: number and place of section 10.
-struct Refusal {
-    number: u32,
-    place: u64,
-}
-
-fn refuse<T>(number: u32, place: u64) -> Result<T, Refusal> {
-    Err(Refusal { number, place })
-}
+type Refusal = (u32, u64);
 
 impl Terms {
     fn check(&self) -> Result<(), Refusal> {
-        if self.gap >= TIME_BOUND {
-            refuse(2, 0)
-        } else if self.lateness >= TIME_BOUND {
-            refuse(2, 1)
-        } else if self.day_length == 0 {
-            refuse(2, 2)
-        } else {
-            Ok(())
+        match self {
+            Terms { gap: TIME_BOUND.., .. } => Err((2, 0)),
+            Terms { lateness: TIME_BOUND.., .. } => Err((2, 1)),
+            Terms { day_length: 0, .. } => Err((2, 2)),
+            _ => Ok(()),
         }
     }
 }
@@ -154,6 +145,7 @@ struct Changes {
     added: Vec<Visit>,
 }
 
+#[derive(Default)]
 struct Peer {
     terms: Terms,
     watermark: u64,
@@ -170,17 +162,6 @@ struct Peer {
 }
 
 impl Peer {
-    fn new(terms: Terms) -> Peer {
-        Peer {
-            terms,
-            watermark: 0,
-            visits: BTreeMap::new(),
-            ends: BTreeSet::new(),
-            seen: BTreeSet::new(),
-            ledger: BTreeMap::new(),
-        }
-    }
-
     /// Does one command. `changes` is empty before, and stays so if the command is refused.
     fn step(&mut self, command: &Command, changes: &mut Changes) -> Result<(), Refusal> {
         // Bad terms refuse everything, so the sums below cannot overflow.
@@ -195,13 +176,13 @@ impl Peer {
 
     fn reading(&mut self, reading: &Reading, changes: &mut Changes) -> Result<(), Refusal> {
         if reading.time >= TIME_BOUND {
-            return refuse(3, 2);
+            return Err((3, 2));
         }
         if reading.time + self.terms.lateness < self.watermark {
-            return refuse(4, reading.time);
+            return Err((4, reading.time));
         }
         if !self.seen.insert((reading.time, reading.card, reading.serial)) {
-            return refuse(5, reading.time);
+            return Err((5, reading.time));
         }
         self.merge(Visit::of(reading), changes);
         Ok(())
@@ -244,16 +225,16 @@ impl Peer {
     /// A larger watermark closes visits, and retracts none.
     fn advance(&mut self, watermark: u64, changes: &mut Changes) -> Result<(), Refusal> {
         if watermark >= TIME_BOUND {
-            return refuse(3, 1);
+            return Err((3, 1));
         }
         if watermark < self.watermark {
-            return refuse(6, watermark);
+            return Err((6, watermark));
         }
         // Those with `to + gap` from the old watermark on and below the new one.
         let first = (self.watermark.saturating_sub(self.terms.gap), 0, 0);
         let end = (watermark.saturating_sub(self.terms.gap), 0, 0);
-        let closing = self.ends.range(first..end).map(|&(_, card, from)| self.visits[&(card, from)]);
-        changes.added.extend(closing);
+        let closing = self.ends.range(first..end);
+        changes.added.extend(closing.map(|&(_, card, from)| self.visits[&(card, from)]));
         changes.added.sort_unstable_by_key(|visit| (visit.card, visit.from));
 
         self.watermark = watermark;
@@ -311,7 +292,7 @@ fn run(peer: &mut Peer, commands: &mut Commands, out: &mut impl Write) -> io::Re
     for command in commands {
         match peer.step(&command, &mut changes) {
             Ok(()) => print_changes(&mut changes, out)?,
-            Err(Refusal { number, place }) => writeln!(out, "refused {number} at {place}")?,
+            Err((number, place)) => writeln!(out, "refused {number} at {place}")?,
         }
     }
     for ((card, day), Line { visits, sum }) in &peer.ledger {
@@ -350,7 +331,7 @@ fn work() -> Result<(), Box<dyn Error>> {
     let Some(terms) = file.first_chunk() else {
         return Err(format!("the file has {} bytes; the terms alone take 24", file.len()).into());
     };
-    let mut peer = Peer::new(read_terms(terms));
+    let mut peer = Peer { terms: read_terms(terms), ..Peer::default() };
     let mut commands = Commands { file: &file, at: TERMS_LENGTH };
     let mut out = BufWriter::with_capacity(1 << 16, io::stdout().lock());
     run(&mut peer, &mut commands, &mut out)?;

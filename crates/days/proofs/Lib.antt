@@ -1,0 +1,4 @@
+mod Digits
+pub mod RoundTrip
+mod Splitting
+mod Steps
