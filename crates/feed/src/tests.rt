@@ -11,55 +11,12 @@ use visit::Line;
 use visit::Visit;
 
 // Every byte differs, so that no two fields can be exchanged unseen.
-const READING: [u8; 21] = [
-    0,
-    1,
-    2,
-    3,
-    4,
-    5,
-    6,
-    7,
-    8,
-    9,
-    10,
-    11,
-    12,
-    13,
-    14,
-    15,
-    16,
-    17,
-    18,
-    19,
-    20,
-];
+const READING: [u8; 21] =
+    *b"\x00\x01\x02\x03\x04\x05\x06\x07\x08\x09\x0a\x0b\x0c\x0d\x0e\x0f\x10\x11\x12\x13\x14";
 
-const WATERMARK: [u8; 9] = [1, 255, 255, 255, 255, 255, 255, 255, 255];
+const WATERMARK: [u8; 9] = *b"\x01\xff\xff\xff\xff\xff\xff\xff\xff";
 
-const UNKNOWN: [u8; 21] = [
-    2,
-    0,
-    0,
-    0,
-    0,
-    0,
-    0,
-    0,
-    0,
-    0,
-    0,
-    0,
-    0,
-    0,
-    0,
-    0,
-    0,
-    0,
-    0,
-    0,
-    0,
-];
+const UNKNOWN: [u8; 21] = [2; 21];
 
 #[test]
 fn layout() -> Result<(), Fail> {
