@@ -1,24 +1,22 @@
 -- The round trip: what is written is read again.
-use mathlib.Core.Bool.{Bool, true, false, cond, _&&_}
+use mathlib.Core.Bool.{true, false}
 use mathlib.Core.List.{List, [], _∷_, _++_}
-use mathlib.Core.Path.{_≡_, refl, sym, ap, subst, _∙_}
-use Prim.Native.Nat.{ℕ, zero, suc, _+_, _-_, _*_, _/_, _%_, _^_, _<_, _≤_}
+use mathlib.Core.Path.{_≡_, refl, ap, _∙_}
+use Prim.Native.Nat.{ℕ, zero, suc, _/_, _^_, _<_}
 use native.Mathlib.Omega.{arith}
-use lib.Dec.{eqb, ltb}
-use lib.ListN.{length, drop, getD, length-drop, length-append}
+use lib.Dec.{ltb}
+use lib.ListN.{length}
 use Rattle.std.proofs.shelf.Ways.{tells}
 use Rattle.std.proofs.shelf.Bits.{div-below, pow-add}
 use Rattle.std.proofs.shelf.Lists.{append-assoc, append-nil, drop-at}
-use Rattle.std.specs.declared.option.Option.{Option}
-use Rattle.std.specs.declared.option.Option.the-variants.{Some, None}
+use Rattle.std.specs.declared.option.Option.the-variants.{Some}
 use Rattle.std.specs.shelf.Lists.{All, joined}
-use Rattle.visit.specs.declared.Reading.{Reading as Entry}
 use Rattle.visit.specs.declared.Terms.{Terms}
 use Rattle.command.specs.declared.Command.{Command}
 use Rattle.command.specs.declared.Command.the-variants.{Reading, Watermark}
 use Rattle.feed.specs.Bytes.{bytes-of, low-first}
 use Rattle.feed.specs.Files.{Round-trip, command-bytes, commands, decoded, storable, terms-bytes, terms-in, unread}
-use Rattle.feed.proofs.Decoding.{commands-end, commands-next, unread-end, unread-next}
+use Rattle.feed.proofs.Decoding.{commands-next, unread-next}
 
 pub low-first-bytes : (n x : ℕ) → x < 256 ^ n → low-first (bytes-of n x) ≡ x
 low-first-bytes zero x h = omega arith
@@ -27,7 +25,7 @@ low-first-bytes (suc n) x h =
     let q : x / 256 < 256 ^ n = div-below x 256 (256 ^ n) (omega arith) (omega arith) in
     omega (arith, low-first-bytes n (x / 256) q)
 
-terms-back : (t : Terms) (rest : List ℕ) → t .gap < 2 ^ 64 → t .lateness < 2 ^ 64 → t .day < 2 ^ 64 → terms-in (terms-bytes t ++ rest) ≡ Some t
+pub terms-back : (t : Terms) (rest : List ℕ) → t .gap < 2 ^ 64 → t .lateness < 2 ^ 64 → t .day < 2 ^ 64 → terms-in (terms-bytes t ++ rest) ≡ Some t
 unfolding terms-in
 terms-back t rest a b d =
     let p = low-first-bytes 8 (t .gap) a in

@@ -1,5 +1,5 @@
 -- What is read, written again, is the bytes that were read.
-use mathlib.Core.Bool.{Bool, true, false, cond}
+use mathlib.Core.Bool.{true}
 use mathlib.Core.List.{List, [], _∷_, _++_}
 use mathlib.Core.Path.{_≡_, refl, sym, ap, subst, _∙_}
 use Prim.Native.Nat.{ℕ, zero, suc, _+_, _-_, _*_, _/_, _%_, _^_, _<_, _≤_}
@@ -9,7 +9,7 @@ use lib.ListN.{length, take, drop, getD, length-drop}
 use lib.Seq.{take-add}
 use Rattle.std.proofs.shelf.Bits.{pow-add}
 use Rattle.std.proofs.shelf.Elements.{all-drop, all-take}
-use Rattle.std.proofs.shelf.Lists.{append-assoc, drop-drop, length-take-le, take-append-drop}
+use Rattle.std.proofs.shelf.Lists.{drop-drop, length-take-le, take-append-drop}
 use Rattle.std.proofs.shelf.Tests.{cond-both, eqb-true, ltb-false}
 use Rattle.std.proofs.shelf.Ways.{tells}
 use Rattle.std.specs.Options.{Cases}

@@ -1,6 +1,6 @@
 mod Places
 mod Rows
 pub mod Encoding
-mod Exact
+pub mod Exact
 pub mod Decoding
 mod Printing

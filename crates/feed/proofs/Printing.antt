@@ -1,6 +1,6 @@
 -- Lines put behind a text one by one.
 use mathlib.Core.List.{List, _++_}
-use mathlib.Core.Path.{_≡_, ap, sym, _∙_}
+use mathlib.Core.Path.{_≡_, ap, _∙_}
 use Prim.Native.Nat.{ℕ, _+_, _<_, _≤_}
 use lib.ListN.{length, take, getD}
 use Rattle.std.proofs.shelf.Lists.{append-assoc, joined-more, take-all, take-more}

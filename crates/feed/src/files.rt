@@ -9,13 +9,13 @@ ghost use lib.ListN.{length};
 ghost use mathlib.Core.Bool.{cond, true};
 ghost use mathlib.Core.List.{_++_};
 ghost use mathlib.Core.Path.{_≡_};
-ghost use Rattle.command.specs.declared.Command.the-variants.{Reading as Entry, Watermark as Mark};
 use command::Command;
 use command::WORD_LIMIT;
 use std::alloc::AllocError;
 use visit::Reading;
 use visit::Terms;
 
+// How many bytes the terms take, and a command of each kind.
 pub const TERMS_SIZE: usize = 24;
 
 const READING_SIZE: usize = 21;
@@ -122,8 +122,8 @@ fn reading_row(reading: Reading) -> [u8; READING_SIZE]
     requires card { ⌜ reading .card < 2 ^ 32 ⌝ }
     requires serial { ⌜ reading .serial < 2 ^ 32 ⌝ }
     requires amount { ⌜ reading .amount < 2 ^ 32 ⌝ }
-    ensures value { λ r. ⌜ r ≡ command-bytes (Entry reading) ⌝ }
-    ensures stored { λ _. ⌜ storable (Entry reading) ≡ true ⌝ }
+    ensures value { λ r. ⌜ r ≡ command-bytes (Command.Reading reading) ⌝ }
+    ensures stored { λ _. ⌜ storable (Command.Reading reading) ≡ true ⌝ }
 {
     let mut row = [0u8; READING_SIZE];
     row[1..5].copy_from_slice(&(reading.card as u32).to_le_bytes());
@@ -134,8 +134,8 @@ fn reading_row(reading: Reading) -> [u8; READING_SIZE]
 }
 
 fn watermark_row(watermark: u64) -> [u8; WATERMARK_SIZE]
-    ensures value { λ r. ⌜ r ≡ command-bytes (Mark watermark) ⌝ }
-    ensures stored { λ _. ⌜ storable (Mark watermark) ≡ true ⌝ }
+    ensures value { λ r. ⌜ r ≡ command-bytes (Command.Watermark watermark) ⌝ }
+    ensures stored { λ _. ⌜ storable (Command.Watermark watermark) ≡ true ⌝ }
 {
     let mut row = [0u8; WATERMARK_SIZE];
     row[0] = 1;

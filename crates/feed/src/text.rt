@@ -2,10 +2,10 @@
 ghost use Rattle.command.specs.Outcomes.{outcome-of};
 ghost use Rattle.feed.specs.Text.{change-text, changes-text, ledger-text, line-text, outcome-text, refusal-text, sign as Sign};
 ghost use Rattle.std.specs.Of.String.{string-bytes};
-ghost use Rattle.std.specs.Vec.{made};
-ghost use Rattle.std.specs.declared.option.Option.the-variants.{Some};
 ghost use Rattle.std.specs.Options.{Cases as BySome};
+ghost use Rattle.std.specs.Vec.{made};
 ghost use Rattle.std.specs.Written.{then};
+ghost use Rattle.std.specs.declared.option.Option.the-variants.{Some};
 ghost use mathlib.Core.List.{[], _++_, _∷_};
 ghost use mathlib.Core.Path.{_≡_};
 use command::Answer;

@@ -1,13 +1,9 @@
-use mathlib.Core.Path.{_≡_, sym, ap, refl, _∙_}
+use mathlib.Core.Path.{_≡_, sym}
 use borrow.Author.Needs.{needs}
 use native.Mathlib.Omega.{arith}
-use Prim.Native.Nat.{ℕ, _+_}
-use lib.ListN.{drop, length, length-drop}
+use lib.ListN.{drop, length-drop}
 use Rattle.std.proofs.shelf.Lists.{take-rest, drop-all}
-use Rattle.std.specs.Options.{mapped}
-use Rattle.std.specs.declared.option.Option.{Option}
-use Rattle.std.specs.declared.option.Option.the-variants.{Some, None}
-use Rattle.command.specs.declared.Command.{Command}
+use Rattle.std.specs.declared.option.Option.the-variants.{Some}
 use Rattle.feed.specs.Files.{decoded}
 use Rattle.feed.proofs.Decoding.{size-bound}
 use Rattle.feed.proofs.files.command_at.Needs as need

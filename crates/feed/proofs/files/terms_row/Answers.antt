@@ -1,4 +1,4 @@
-use mathlib.Core.Path.{_≡_, _∙_}
+use mathlib.Core.Path.{_≡_}
 use Rattle.feed.specs.Bytes.{bytes-of}
 use Rattle.feed.proofs.Rows.{long-bytes}
 use Rattle.feed.proofs.files.terms_row.Needs as need
