@@ -1,2 +1,2 @@
 pub mod Flags
-
+pub mod Noted
