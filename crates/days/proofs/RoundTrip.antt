@@ -1,5 +1,5 @@
 -- A written day is read back.
-use mathlib.Core.Path.{_≡_, refl, sym, ap, _∙_}
+use mathlib.Core.Path.{_≡_, refl, ap, _∙_}
 use mathlib.Core.Bool.{Bool, true, false}
 use mathlib.Core.List.{List, [], _∷_, _++_, append-assoc}
 use Prim.Native.Nat.{ℕ, _+_, _<_, _^_}
@@ -8,10 +8,9 @@ use lib.Dec.{eqb, ltb}
 use lib.ListN.{length}
 use borrow.Author.Needs.{needs}
 use Rattle.std.specs.Joined.{joined}
-use Rattle.std.specs.Text.{asciiDigit}
 use Rattle.std.specs.Written.{decimal}
 use Rattle.std.specs.declared.result.Result.{Result}
-use Rattle.std.specs.declared.result.Result.the-variants.{Ok, Err}
+use Rattle.std.specs.declared.result.Result.the-variants.{Ok}
 use Rattle.std.specs.shelf.Lists.{All}
 use Rattle.std.specs.shelf.Text.{allDigits}
 use Rattle.std.proofs.shelf.Decimals.{decimal-some, digits-decimal, value-decimal}
@@ -25,11 +24,12 @@ use Rattle.days.specs.declared.BadLine.{BadLine}
 use Rattle.days.specs.declared.Reason.{Reason}
 use Rattle.days.specs.declared.words.Class.the-variants.{Code, Line, Word}
 use Rattle.days.specs.Numbers.{number-in, number-limit, value-after, word-limit}
-use Rattle.days.specs.Parsing.{at-line, commands-from, day-from, parsed-command, parsed-day, parsed-terms, then}
+use Rattle.days.specs.Parsing.{at-line, commands-from, day-from, parsed-command, parsed-terms, then}
 use Rattle.days.specs.RoundTrip.{Command-fits, Parses-back, Terms-fit}
 use Rattle.days.specs.Words.{belongs, filled, front, line-words, lines, onto, pieces, words}
-use Rattle.days.specs.Writing.{command-text, command-words, day-text, spaced, terms-text, terms-words}
+use Rattle.days.specs.Writing.{command-text, command-words, spaced, terms-words}
 use Rattle.days.proofs.Digits.{filled-is}
+use Rattle.days.proofs.Splitting.{words-nil}
 use Rattle.days.proofs.Steps.{commands-line, day-line}
 
 -- pieces are what was put together
@@ -60,10 +60,6 @@ words-one : (w : List ℕ) → Clean w → words w ≡ w ∷ []
 unfolding words
 words-one [] h = let z : _≡_ {A = ℕ} 0 1 = cc (h .0) in absurd (omega arith)
 words-one (b ∷ w) h = simp (pieces-one (belongs Word) b w (h .1 .0))
-
-words-nil : words [] ≡ []
-unfolding words
-words-nil = refl
 
 words-spaced : (ws : List (List ℕ)) → All Clean ws → words (spaced ws) ≡ ws
 words-spaced [] a = words-nil
@@ -110,10 +106,7 @@ number-back limit n l h =
     let below : ltb n limit ≡ true = grind (arith, tells) in simp (decimal-filled n h, digits-decimal own n h, value-decimal own n h, below)
 
 terms-clean : (t : Terms) → Terms-fit t → All Clean (terms-words t)
-terms-clean t f = (
-  (refl, ((refl, (refl, (refl, (refl, (refl, tt))))), ((refl, refl), ((refl, refl), ((refl, refl), ((refl, refl), ((refl, refl), tt))))))),
-  (decimal-clean _ (f .0), (decimal-clean _ (f .1), (decimal-clean _ (f .2), tt))),
-)
+terms-clean t f = ((refl, (search needs, search needs)), (decimal-clean _ (f .0), (decimal-clean _ (f .1), (decimal-clean _ (f .2), tt))))
 
 terms-back : (t : Terms) → Terms-fit t → parsed-terms (terms-words t) ≡ Ok t
 terms-back t f =

@@ -11,7 +11,7 @@ use Rattle.std.specs.shelf.Lists.{All, kept-by}
 use Rattle.std.proofs.shelf.Elements.{kept-by-passes}
 use Rattle.std.proofs.shelf.Lists.{at-drop-all, drop-at, drop-more, length-append, take-at}
 use Rattle.std.proofs.shelf.Ways.{tells}
-use Rattle.days.specs.declared.words.Class.the-variants.{Line, Code, Blank, Word}
+use Rattle.days.specs.declared.words.Class.the-variants.{Line, Blank, Word}
 use Rattle.days.specs.Words.{belongs, beyond, blank, filled, front, lines, onto, pieces, words}
 
 -- cases by a test

@@ -1,11 +1,11 @@
 // A text cut into lines and words, and a word read as a number.
-ghost use Prim.Native.Nat.{_+_, _<_, _≤_};
+ghost use Prim.Native.Nat.{_+_, _<_};
 ghost use Rattle.days.specs.Numbers.{is-number, number-in};
-ghost use Rattle.days.specs.declared.words.Class.the-variants.{Line, Code};
+ghost use Rattle.days.specs.declared.words.Class.the-variants.{Code, Line};
 ghost use Rattle.days.specs.Words.{belongs, beyond, front, lines, words};
 ghost use Rattle.std.specs.shelf.Text.{sameBytes};
 ghost use lib.Dec.{eqb};
-ghost use lib.ListN.{drop, getD, length, take};
+ghost use lib.ListN.{drop, getD, length};
 ghost use mathlib.Core.List.{[], _∷_};
 ghost use mathlib.Core.Path.{_≡_};
 use super::Reason;

@@ -1,6 +1,5 @@
 use borrow.Author.Needs.{needs}
 use Rattle.std.proofs.shelf.Equals.{matches-decides, sameBytes-decides}
-use Rattle.std.proofs.shelf.Ways.{same-from-decides}
 use Rattle.days.proofs.words.first_is.Needs as need
 
 pub returns : need.returns

@@ -1,4 +1,3 @@
-use native.Mathlib.Omega.{arith}
 use borrow.Author.Needs.{needs}
 use Rattle.days.proofs.Splitting.{front-end, front-here}
 use Rattle.days.proofs.words.run.Needs as need
