@@ -18,6 +18,10 @@ use std::fs;
 use std::io::Read;
 use std::io::Write;
 
+const VERSION: &str = "0.1.0";
+
+const STOPPED: &str = "the command ends early or is of unknown kind";
+
 pub fn flag(word: &str) -> Flag
     ensures { λ r. ⌜ Means (now (word .entry)) r ⌝ }
 {
@@ -108,8 +112,50 @@ impl Options {
     }
 }
 
+// A program: its name, what --help prints, and what it does with a file, once its options are known.
+pub trait Tool {
+    fn name(&self) -> &'static str;
+
+    fn help(&self) -> &'static str;
+
+    // Writes to standard output, and says how many bytes at the end of the file could not be read.
+    fn process(&self, rt: &LibcRuntime, options: &Options, file: &[u8]) -> Result<usize, AnyError>;
+}
+
+// Runs a program, and says in one line on standard error what went wrong.
+pub fn run<T: Tool>(rt: &LibcRuntime, tool: &T) -> Result<(), AnyError> {
+    let result = attempt(rt, tool);
+    if let Err(e) = &result {
+        let name = tool.name();
+        let _ = eprintln!(rt, "{name}: {e}");
+    }
+    result
+}
+
+fn attempt<T: Tool>(rt: &LibcRuntime, tool: &T) -> Result<(), AnyError> {
+    let options = gather(rt)?;
+    let name = tool.name();
+    if options.help {
+        return output(rt, tool.help().as_bytes());
+    }
+    if options.version {
+        println!(rt, "{name} {VERSION}")?;
+        return Ok(());
+    }
+    let file = input(rt, &options.file)?;
+    let unread = tool.process(rt, &options, file.as_slice())?;
+    if unread > 0 {
+        let at = file.len().saturating_sub(unread);
+        if options.strict {
+            return Err(format!(rt.alloc(), "stopped at byte {at}: {STOPPED}")?.into());
+        }
+        eprintln!(rt, "{name}: stopped at byte {at}: {STOPPED}")?;
+    }
+    Ok(())
+}
+
 // The options of this run.
-pub fn gather(rt: &LibcRuntime) -> Result<Options, AnyError> {
+fn gather(rt: &LibcRuntime) -> Result<Options, AnyError> {
     let mut options = Options::none();
     for word in env::args(rt)?.skip(1) {
         options = match options.noted(word) {
@@ -123,7 +169,7 @@ pub fn gather(rt: &LibcRuntime) -> Result<Options, AnyError> {
 }
 
 // The whole file that is named, or the whole standard input.
-pub fn input(rt: &LibcRuntime, file: &Option<String>) -> Result<Vec<u8>, AnyError> {
+fn input(rt: &LibcRuntime, file: &Option<String>) -> Result<Vec<u8>, AnyError> {
     match file {
         None => {
             let mut bytes = Vec::new(rt.alloc());
@@ -141,36 +187,4 @@ pub fn input(rt: &LibcRuntime, file: &Option<String>) -> Result<Vec<u8>, AnyErro
 pub fn output(rt: &LibcRuntime, bytes: &[u8]) -> Result<(), AnyError> {
     rt.stdout().write_all(bytes)?;
     Ok(())
-}
-
-// Says on standard error at which byte a file could not be read any further; an error if that is to count as one.
-pub fn stopped(
-    rt: &LibcRuntime,
-    name: &str,
-    at: usize,
-    unread: usize,
-    strict: bool,
-) -> Result<(), AnyError> {
-    if unread == 0 {
-        return Ok(());
-    }
-    if strict {
-        return Err(format!(
-            rt.alloc(),
-            "stopped at byte {at}: the command ends early or is of unknown kind"
-        )?.into());
-    }
-    eprintln!(
-        rt,
-        "{name}: stopped at byte {at}: the command ends early or is of unknown kind"
-    )?;
-    Ok(())
-}
-
-// One line on standard error for an error, and the error handed on.
-pub fn ended(rt: &LibcRuntime, name: &str, result: Result<(), AnyError>) -> Result<(), AnyError> {
-    if let Err(e) = &result {
-        let _ = eprintln!(rt, "{name}: {e}");
-    }
-    result
 }
