@@ -1,3 +1,4 @@
 pub mod Sessions
 pub mod Ledger
 pub mod Reference
+pub mod Store
