@@ -1,0 +1,4 @@
+mod Appending
+mod Fits
+mod Outcomes
+mod RoundTrip
