@@ -50,8 +50,8 @@ pub record Draft : Type 0 where
 abbrev pub draft : Terms → Store → Command → Result Draft Refusal
 draft t s (A-reading e) =
     cond (too-late t (s .watermark) e) (Err (TooLate (e .time)))
-        (cond (contains t e (s .seen)) (Err (Duplicate (e .time)))
-            (Ok (record { live = merge-in t (single e) (s .live); seen = insert-reading t e (s .seen); watermark = s .watermark })))
+    (cond (contains t e (s .seen)) (Err (Duplicate (e .time)))
+    (Ok (record { live = merge-in t (single e) (s .live); seen = insert-reading t e (s .seen); watermark = s .watermark })))
 draft t s (Watermark m) = cond (ltb m (s .watermark)) (Err (Backwards m)) (Ok (record { live = s .live; seen = s .seen; watermark = m }))
 
 -- The live visits that were closed, and those that are.
@@ -69,8 +69,11 @@ booked t gone new ls = add-visits t new (take-visits t gone ls)
 abbrev pub finish : Terms → Store → Draft → Store
 finish t s d =
     record {
-        live = live-only t (d .watermark) (d .live); seen = kept-only t (d .watermark) (d .seen); watermark = d .watermark;
-        ledger = booked t (difference t (closed-before t s) (closed-after t d)) (difference t (closed-after t d) (closed-before t s)) (s .ledger) }
+      live = live-only t (d .watermark) (d .live);
+      seen = kept-only t (d .watermark) (d .seen);
+      watermark = d .watermark;
+      ledger = booked t (difference t (closed-before t s) (closed-after t d)) (difference t (closed-after t d) (closed-before t s)) (s .ledger);
+    }
 
 abbrev pub store-outcome-by : Terms → Store → Result Draft Refusal → Outcome
 store-outcome-by t s (Ok d) = changes t (closed-before t s) (closed-after t d)

@@ -1,10 +1,12 @@
 // A day as text to a command file, and back.
 use cli::Tool;
 use cli::options::Options;
+use convert::BadLineDisplay;
 use convert::PackError;
 use std::error::AnyError;
 
-const HELP: &str = "pack [FILE]\npack --unpack [--strict] [FILE]\n\nWrites the command file of a day in text, FILE or standard input; nothing is written if a line is bad.\nWith --unpack it writes the text of a command file.\n\n  --unpack   the other way\n  --strict   end with status 1 if the command file ends within a command or has one of unknown kind\n  --help     print this and end\n  --version  print the version and end\n";
+const HELP: &str =
+    "pack [FILE]\npack --unpack [--strict] [FILE]\n\nWrites the command file of a day in text, FILE or standard input; nothing is written if a line is bad.\nWith --unpack it writes the text of a command file.\n\n  --unpack   the other way\n  --strict   end with status 1 if the command file ends within a command or has one of unknown kind\n  --help     print this and end\n  --version  print the version and end\n";
 
 struct Pack;
 
@@ -18,7 +20,11 @@ impl Tool for Pack as PackTool {
     }
 
     fn process(&self, rt: &LibcRuntime, options: &Options, file: &[u8]) -> Result<usize, AnyError> {
-        if options.unpack { unpack(rt, file) } else { pack(rt, file) }
+        if options.unpack {
+            unpack(rt, file)
+        } else {
+            pack(rt, file)
+        }
     }
 }
 

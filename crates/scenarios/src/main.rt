@@ -4,6 +4,7 @@
 mod named;
 mod random;
 
+use convert::BadLineDisplay;
 use named::DAYS;
 use std::alloc::Global;
 use std::env;
@@ -14,29 +15,33 @@ use std::io::Write;
 const RANDOM_DAYS: u64 = 40;
 
 // One day: its name, and its command file.
+#[derive(Drop)]
 struct Day {
     name: String,
     file: Vec<u8>,
 }
 
-impl Drop for Day {
-    fn drop(self) {
-        let Day { name: _, file: _ } = self;
-    }
-}
-
 fn named_day(heap: Global, name: &str, text: &str, tail: &[u8]) -> Result<Day, AnyError> {
     let mut file = match convert::pack(heap, text.as_bytes()) {
         Ok(file) => file,
-        Err(convert::PackError::BadLine(line)) => return Err(format!(heap, "{name}: {line}")?.into()),
+        Err(convert::PackError::BadLine(line)) => return Err(format!(
+            heap,
+            "{name}: {line}"
+        )?.into()),
         Err(convert::PackError::NoMemory) => return Err("out of memory".into()),
     };
     file.extend_from_slice(tail)?;
-    Ok(Day { name: String::from_str(heap, name)?, file })
+    Ok(Day {
+        name: String::from_str(heap, name)?,
+        file,
+    })
 }
 
 fn random_day(heap: Global, seed: u64) -> Result<Day, AnyError> {
-    Ok(Day { name: format!(heap, "random-{seed:03}")?, file: random::day(heap, seed)? })
+    Ok(Day {
+        name: format!(heap, "random-{seed:03}")?,
+        file: random::day(heap, seed)?,
+    })
 }
 
 // Reports a day, or writes its file into a folder.

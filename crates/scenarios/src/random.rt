@@ -43,7 +43,11 @@ impl Random {
 // Readings are around the clock of the day, most of them a little late.
 fn reading(random: &mut Random, terms: Terms, clock: u64) -> Command {
     let reach = terms.gap.saturating_add(terms.lateness).saturating_add(2);
-    let back = if random.below(3) == 0 { random.below(reach.saturating_mul(2)) } else { random.below(terms.gap.saturating_add(2)) };
+    let back = if random.below(3) == 0 {
+        random.below(reach.saturating_mul(2))
+    } else {
+        random.below(terms.gap.saturating_add(2))
+    };
     Command::Reading(Reading {
         card: random.below(3).saturating_add(1),
         time: clock.saturating_sub(back),
