@@ -8,9 +8,9 @@ use std::error::AnyError;
 const HELP: &str =
     "pack [FILE]\npack --unpack [--strict] [FILE]\n\nWrites the command file of a day in text, FILE or standard input; nothing is written if a line is bad.\nWith --unpack it writes the text of a command file.\n\n  --unpack   the other way\n  --strict   end with status 1 if the command file ends within a command or has one of unknown kind\n  --help     print this and end\n  --version  print the version and end\n";
 
-struct Pack;
+struct Packer;
 
-impl Tool for Pack as PackTool {
+impl Tool for Packer as PackerTool {
     fn name(&self) -> &'static str {
         "pack"
     }
@@ -21,14 +21,14 @@ impl Tool for Pack as PackTool {
 
     fn process(&self, rt: &LibcRuntime, options: &Options, file: &[u8]) -> Result<usize, AnyError> {
         if options.unpack {
-            unpack(rt, file)
+            unpack_file(rt, file)
         } else {
-            pack(rt, file)
+            pack_text(rt, file)
         }
     }
 }
 
-fn pack(rt: &LibcRuntime, text: &[u8]) -> Result<usize, AnyError> {
+fn pack_text(rt: &LibcRuntime, text: &[u8]) -> Result<usize, AnyError> {
     match convert::pack(rt.alloc(), text) {
         Ok(file) => {
             cli::output(rt, file.as_slice())?;
@@ -39,7 +39,7 @@ fn pack(rt: &LibcRuntime, text: &[u8]) -> Result<usize, AnyError> {
     }
 }
 
-fn unpack(rt: &LibcRuntime, file: &[u8]) -> Result<usize, AnyError> {
+fn unpack_file(rt: &LibcRuntime, file: &[u8]) -> Result<usize, AnyError> {
     let Some(day) = convert::unpack(rt.alloc(), file)? else {
         return Err("the file is shorter than its terms (24 bytes)".into());
     };
@@ -48,5 +48,5 @@ fn unpack(rt: &LibcRuntime, file: &[u8]) -> Result<usize, AnyError> {
 }
 
 fn main(rt: LibcRuntime) -> Result<(), AnyError> {
-    cli::run(&rt, &Pack)
+    cli::run(&rt, &Packer)
 }

@@ -3,8 +3,11 @@
 // `scenarios DIR` writes.
 mod named;
 mod random;
+#[cfg(test)]
+mod tests;
 
 use convert::BadLineDisplay;
+use convert::PackError;
 use named::DAYS;
 use std::alloc::Global;
 use std::env;
@@ -21,15 +24,20 @@ struct Day {
     file: Vec<u8>,
 }
 
+// The command file of a text; no text, no bytes.
+fn packed(heap: Global, text: &str) -> Result<Vec<u8>, AnyError> {
+    if text.is_empty() {
+        return Ok(Vec::new(heap));
+    }
+    match convert::pack(heap, text.as_bytes()) {
+        Ok(file) => Ok(file),
+        Err(PackError::BadLine(line)) => Err(format!(heap, "{line}")?.into()),
+        Err(PackError::NoMemory) => Err("out of memory".into()),
+    }
+}
+
 fn named_day(heap: Global, name: &str, text: &str, tail: &[u8]) -> Result<Day, AnyError> {
-    let mut file = match convert::pack(heap, text.as_bytes()) {
-        Ok(file) => file,
-        Err(convert::PackError::BadLine(line)) => return Err(format!(
-            heap,
-            "{name}: {line}"
-        )?.into()),
-        Err(convert::PackError::NoMemory) => return Err("out of memory".into()),
-    };
+    let mut file = packed(heap, text)?;
     file.extend_from_slice(tail)?;
     Ok(Day {
         name: String::from_str(heap, name)?,

@@ -1,10 +1,16 @@
-// Days with a name: a text, and bytes put behind its command file.
+// Days with a name: a text, and bytes put behind its command file. Without a text the bytes are the file.
 
-pub const DAYS: [(&'static str, &'static str, &'static [u8]); 14] = [
+pub const DAYS: [(&'static str, &'static str, &'static [u8]); 16] = [
     (
         "worked-day",
         "terms 10 30 100\nreading 1 5 0 2\nreading 1 12 0 3\nwatermark 40\nreading 1 20 0 1\nreading 1 33 0 4\nreading 1 27 0 5\nwatermark 44\nreading 1 9 0 1\nreading 1 27 0 5\nwatermark 43\nreading 2 100 0 7\nreading 2 100 1 7\nwatermark 111\nwatermark 120\n",
         b"",
+    ),
+    ("empty-file", "", b""),
+    (
+        "one-byte-short-of-terms",
+        "",
+        b"\x0a\0\0\0\0\0\0\0\x1e\0\0\0\0\0\0\0\x64\0\0\0\0\0\0",
     ),
     ("terms-only", "terms 10 30 100\n", b""),
     (
@@ -44,7 +50,7 @@ pub const DAYS: [(&'static str, &'static str, &'static [u8]); 14] = [
     ),
     (
         "largest-numbers",
-        "terms 1099511627775 1099511627775 18446744073709551615\nreading 4294967295 1099511627775 4294967295 4294967295\nreading 4294967295 0 4294967295 4294967295\nreading 4294967295 0 4294967294 4294967295\nwatermark 1099511627775\n",
+        "terms 0 1099511627775 18446744073709551615\nreading 4294967295 1099511627774 4294967295 4294967295\nreading 4294967295 1099511627774 4294967294 4294967295\nwatermark 1099511627775\n",
         b"",
     ),
     (
