@@ -61,53 +61,26 @@ impl Options {
     pub fn noted(self, word: String) -> Result<Options, Usage>
         ensures { λ r. ⌜ ((f : A-flag) × Means (string-bytes word) f × (r ≡ Noted self word f)) ⌝ }
     {
-        let Options {
-            help,
-            version,
-            strict,
-            unpack,
-            file,
-        } = self;
         match flag(word.as_str()) {
-            Flag::Help => Ok(Options {
-                help: true,
-                version,
-                strict,
-                unpack,
-                file,
-            }),
+            Flag::Help => Ok(Options { help: true, ..self }),
             Flag::Version => Ok(Options {
-                help,
                 version: true,
-                strict,
-                unpack,
-                file,
+                ..self
             }),
             Flag::Strict => Ok(Options {
-                help,
-                version,
                 strict: true,
-                unpack,
-                file,
+                ..self
             }),
             Flag::Unpack => Ok(Options {
-                help,
-                version,
-                strict,
                 unpack: true,
-                file,
+                ..self
             }),
             Flag::Unknown => Err(Usage::UnknownOption),
-            Flag::Name => match file {
-                None => Ok(Options {
-                    help,
-                    version,
-                    strict,
-                    unpack,
-                    file: Some(word),
-                }),
-                Some(_) => Err(Usage::TwoFiles),
-            },
+            Flag::Name if self.file.is_some() => Err(Usage::TwoFiles),
+            Flag::Name => Ok(Options {
+                file: Some(word),
+                ..self
+            }),
         }
     }
 }
