@@ -22,7 +22,8 @@ use Rattle.feed.specs.Files.{storable}
 use Rattle.days.specs.declared.BadLine.{BadLine}
 use Rattle.days.specs.declared.Reason.{Reason}
 use Rattle.days.specs.declared.Reason.the-variants.{NoTerms, NoCommand, WrongCount}
-use Rattle.days.specs.Numbers.{number-in, number-limit, word-limit}
+use Rattle.command.specs.Bounds.{word-limit}
+use Rattle.days.specs.Numbers.{number-in, number-limit}
 use Rattle.days.specs.Parsing.{at-line, commands-from, day-from, parsed-command, parsed-day, parsed-reading, parsed-terms, parsed-watermark, then}
 use Rattle.days.specs.RoundTrip.{Command-fits, Terms-fit}
 use Rattle.days.specs.Words.{line-words, lines}

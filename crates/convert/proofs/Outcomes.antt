@@ -16,7 +16,7 @@ use Rattle.visit.specs.declared.Terms.{Terms}
 use Rattle.command.specs.declared.Command.{Command}
 use Rattle.feed.specs.declared.files.EncodeError.{EncodeError}
 use Rattle.feed.specs.declared.files.EncodeError.the-variants.{OutOfMemory, TooLarge}
-use Rattle.feed.specs.Files.{commands, storable, terms-in, unread}
+use Rattle.feed.specs.Files.{body, commands, storable, terms-in, unread}
 use Rattle.days.specs.declared.BadLine.{BadLine}
 use Rattle.days.specs.declared.ParseError.{ParseError}
 use Rattle.days.specs.declared.ParseError.the-variants.{Bad, NoMemory}
@@ -24,7 +24,7 @@ use Rattle.days.specs.Outcomes.{Parsed}
 use Rattle.days.specs.Parsing.{parsed-day, then}
 use Rattle.days.specs.Writing.{day-text}
 use Rattle.convert.specs.Packing.{Packs, file-of, pack-error, packed}
-use Rattle.convert.specs.Unpacking.{body, unpacked}
+use Rattle.convert.specs.Unpacking.{unpacked}
 
 -- a command that can be stored is not refused as too large
 pub not-too-large : (cs : List Command) (i : ℕ) (d : Command) (e : EncodeError) → i < length cs → All (λ c. storable c ≡ true) cs → e ≡ cond (storable (getD cs i d)) OutOfMemory TooLarge → e ≡ TooLarge → ⊥

@@ -13,7 +13,7 @@ use Rattle.std.specs.shelf.Lists.{All, joined}
 use Rattle.std.proofs.shelf.Lists.{drop-at}
 use Rattle.visit.specs.declared.Terms.{Terms}
 use Rattle.command.specs.declared.Command.{Command}
-use Rattle.feed.specs.Files.{command-bytes, commands, terms-bytes, terms-in, unread}
+use Rattle.feed.specs.Files.{body, command-bytes, commands, terms-bytes, terms-in, unread}
 use Rattle.feed.proofs.Encoding.{round-trip}
 use Rattle.days.specs.declared.BadLine.{BadLine}
 use Rattle.days.specs.Parsing.{parsed-day, then}
@@ -22,7 +22,7 @@ use Rattle.days.specs.Writing.{day-text}
 use Rattle.days.proofs.RoundTrip.{parses-back}
 use Rattle.convert.specs.Packing.{file-of, packed}
 use Rattle.convert.specs.RoundTrip.{Day-kept, Round-trip}
-use Rattle.convert.specs.Unpacking.{body, unpacked}
+use Rattle.convert.specs.Unpacking.{unpacked}
 use Rattle.convert.proofs.Fits.{all-stored, text-fits}
 
 -- what stands behind the terms

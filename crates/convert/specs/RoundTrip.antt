@@ -10,9 +10,9 @@ use Rattle.command.specs.declared.Command.{Command}
 use Rattle.days.specs.Parsing.{parsed-day}
 use Rattle.days.specs.RoundTrip.{Command-fits, Terms-fit}
 use Rattle.days.specs.Writing.{day-text}
-use Rattle.feed.specs.Files.{commands, terms-in, unread}
+use Rattle.feed.specs.Files.{body, commands, terms-in, unread}
 use Rattle.convert.specs.Packing.{file-of, packed}
-use Rattle.convert.specs.Unpacking.{body, unpacked}
+use Rattle.convert.specs.Unpacking.{unpacked}
 
 -- The file of a day says that day and no more; its text is the day written plainly, which is read as that day again.
 pub record Day-kept (t : Terms) (cs : List Command) : Type 0 where

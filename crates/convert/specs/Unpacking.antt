@@ -1,17 +1,12 @@
 -- The text of a command file.
 use mathlib.Core.List.{List}
 use Prim.Native.Nat.{ℕ}
-use lib.ListN.{drop}
 use Rattle.std.specs.Of.String.{string-bytes}
 use Rattle.std.specs.Options.{mapped}
 use Rattle.std.specs.declared.option.Option.{Option}
 use Rattle.days.specs.Writing.{day-text}
-use Rattle.feed.specs.Files.{commands, terms-in, unread}
+use Rattle.feed.specs.Files.{body, commands, terms-in, unread}
 use Rattle.convert.specs.declared.Unpacked.{Unpacked}
-
--- The bytes behind the terms.
-abbrev pub body : List ℕ → List ℕ
-body file = drop 24 file
 
 -- The text of the commands that can be read, and how many bytes at the end cannot. None if the file is shorter than its terms.
 abbrev pub unpacked : List ℕ → Option (List ℕ × ℕ)

@@ -23,7 +23,8 @@ use Rattle.command.specs.declared.Command.the-variants.{Reading, Watermark}
 use Rattle.days.specs.declared.BadLine.{BadLine}
 use Rattle.days.specs.declared.Reason.{Reason}
 use Rattle.days.specs.declared.words.Class.the-variants.{Code, Line, Word}
-use Rattle.days.specs.Numbers.{number-in, number-limit, value-after, word-limit}
+use Rattle.command.specs.Bounds.{word-limit}
+use Rattle.days.specs.Numbers.{number-in, number-limit, value-after}
 use Rattle.days.specs.Parsing.{at-line, commands-from, day-from, parsed-command, parsed-terms, then}
 use Rattle.days.specs.RoundTrip.{Command-fits, Parses-back, Terms-fit}
 use Rattle.days.specs.Words.{belongs, filled, front, line-words, lines, onto, pieces, words}

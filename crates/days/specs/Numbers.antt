@@ -10,11 +10,7 @@ use Rattle.days.specs.declared.Reason.{Reason}
 use Rattle.days.specs.declared.Reason.the-variants.{NotNumber, TooLarge}
 use Rattle.days.specs.Words.{filled}
 
--- Cards, serials and amounts are below this.
-abbrev pub word-limit : ℕ
-word-limit = 2 ^ 32
-
--- All other numbers are below this.
+-- Cards, serials and amounts are below the limit of a word, all other numbers below this.
 abbrev pub number-limit : ℕ
 number-limit = 2 ^ 64
 

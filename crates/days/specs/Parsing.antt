@@ -14,7 +14,8 @@ use Rattle.command.specs.declared.Command.the-variants.{Reading, Watermark}
 use Rattle.days.specs.declared.BadLine.{BadLine}
 use Rattle.days.specs.declared.Reason.{Reason}
 use Rattle.days.specs.declared.Reason.the-variants.{NoTerms, NoCommand, WrongCount}
-use Rattle.days.specs.Numbers.{number-in, word-limit, number-limit}
+use Rattle.command.specs.Bounds.{word-limit}
+use Rattle.days.specs.Numbers.{number-in, number-limit}
 use Rattle.days.specs.Words.{lines, line-words}
 
 -- What was read goes on into f; a refusal stays.

@@ -7,7 +7,8 @@ use Rattle.std.specs.shelf.Lists.{All}
 use Rattle.visit.specs.declared.Terms.{Terms}
 use Rattle.command.specs.declared.Command.{Command}
 use Rattle.command.specs.declared.Command.the-variants.{Reading, Watermark}
-use Rattle.days.specs.Numbers.{number-limit, word-limit}
+use Rattle.command.specs.Bounds.{word-limit}
+use Rattle.days.specs.Numbers.{number-limit}
 use Rattle.days.specs.Parsing.{parsed-day}
 use Rattle.days.specs.Writing.{day-text}
 

@@ -3,4 +3,4 @@ mod Rows
 pub mod Encoding
 pub mod Exact
 pub mod Decoding
-mod Printing
+pub mod Printing

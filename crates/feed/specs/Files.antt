@@ -14,10 +14,24 @@ use Rattle.command.specs.declared.Command.{Command}
 use Rattle.command.specs.declared.Command.the-variants.{Reading, Watermark}
 use Rattle.feed.specs.Bytes.{number-at, bytes-of}
 
+-- How many bytes the terms, a reading and a watermark take.
+abbrev pub terms-size : ℕ
+terms-size = 24
+
+abbrev pub reading-size : ℕ
+reading-size = 21
+
+abbrev pub watermark-size : ℕ
+watermark-size = 9
+
+-- The bytes behind the terms.
+abbrev pub body : List ℕ → List ℕ
+body file = drop terms-size file
+
 -- Gap, lateness and day length, eight bytes each.
 unfoldable pub terms-in : List ℕ → Option Terms
 terms-in bs =
-    cond (ltb (length bs) 24) None
+    cond (ltb (length bs) terms-size) None
     (Some (record { gap = number-at 8 0 bs; lateness = number-at 8 8 bs; day = number-at 8 16 bs }))
 
 -- A command of n bytes, if that many are left.
@@ -37,8 +51,8 @@ watermark-in bs = Watermark (number-at 8 1 bs)
 -- None if it ends early, which it does where nothing is left, or if its kind is unknown.
 unfoldable pub decoded : List ℕ → Option (Command × ℕ)
 decoded bs =
-    cond (eqb (getD bs 0 0) 0) (whole 21 (reading-in bs) bs)
-    (cond (eqb (getD bs 0 0) 1) (whole 9 (watermark-in bs) bs) None)
+    cond (eqb (getD bs 0 0) 0) (whole reading-size (reading-in bs) bs)
+    (cond (eqb (getD bs 0 0) 1) (whole watermark-size (watermark-in bs) bs) None)
 
 -- A command with where it ends, if it begins at byte i.
 abbrev pub ending : ℕ → Command × ℕ → Command × ℕ

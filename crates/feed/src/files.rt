@@ -1,7 +1,7 @@
 // Command files: gap, lateness and day length, then the commands. All numbers stand low byte first.
 ghost use Prim.Native.Nat.{_+_, _^_, _<_, _≤_};
 ghost use Rattle.feed.specs.Bytes.{number-at};
-ghost use Rattle.feed.specs.Files.{Lossless, Round-trip, command-bytes, decoded, decoded-at, storable, terms-bytes, terms-in};
+ghost use Rattle.feed.specs.Files.{Lossless, Round-trip, command-bytes, decoded, decoded-at, storable, terms-bytes, terms-in, terms-size};
 ghost use Rattle.std.specs.Of.Vec.{vec-items};
 ghost use Rattle.std.specs.Results.{Cases, isOk};
 ghost use Rattle.std.specs.Slices.{found};
@@ -48,7 +48,7 @@ fn long_at(bytes: &[u8], at: usize) -> u64
 // The terms at the front of a file, unless it is too short for them.
 pub fn read_terms(bytes: &[u8]) -> Option<Terms>
     ensures value { λ r. ⌜ r ≡ terms-in (now (bytes .entry)) ⌝ }
-    ensures bound { λ r. ⌜ found r (λ _. 24 ≤ length (now (bytes .entry))) ⌝ }
+    ensures bound { λ r. ⌜ found r (λ _. terms-size ≤ length (now (bytes .entry))) ⌝ }
 {
     if bytes.len() < TERMS_SIZE {
         return None;

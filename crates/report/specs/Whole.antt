@@ -2,18 +2,13 @@
 use mathlib.Core.List.{List}
 use mathlib.Core.Path.{_≡_}
 use Prim.Native.Nat.{ℕ}
-use lib.ListN.{drop}
 use Rattle.std.specs.Of.String.{string-bytes}
 use Rattle.std.specs.declared.option.Option.{Option}
 use Rattle.std.specs.declared.option.Option.the-variants.{Some, None}
 use Rattle.visit.specs.declared.Terms.{Terms}
 use Rattle.command.specs.declared.Command.{Command}
-use Rattle.feed.specs.Files.{commands, terms-in, unread}
+use Rattle.feed.specs.Files.{body, commands, terms-in, unread}
 use Rattle.report.specs.declared.whole.Report.{Report}
-
--- The bytes behind the terms.
-abbrev pub body : List ℕ → List ℕ
-body file = drop 24 file
 
 -- There is no report if the file is shorter than its terms. Else it has the text of the commands that can be read,
 -- and how many bytes at the end cannot.
