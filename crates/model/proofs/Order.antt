@@ -1,17 +1,22 @@
 -- Lists in order: readings that rise, and visits that rise and stand apart.
-use mathlib.Core.Path.{_≡_, refl, sym, ap, _∙_}
-use mathlib.Core.Bool.{Bool, true, false, cond, not, _&&_, _||_}
-use mathlib.Core.List.{List, [], _∷_, _++_}
-use Prim.Native.Nat.{ℕ, _+_, _<_, _≤_, min, max}
+use mathlib.Core.Path.{_≡_, refl}
+use mathlib.Core.Bool.{Bool, true, false}
+use mathlib.Core.List.{List, [], _∷_}
+use Prim.Native.Nat.{_+_, _<_, _≤_}
 use native.Mathlib.Omega.{arith}
+use lib.Dec.{ltb}
 use Rattle.std.specs.shelf.Lists.{All}
 use Rattle.std.proofs.shelf.Elements.{all-weaker}
+use Rattle.std.proofs.shelf.Tests.{or-parts}
 use Rattle.std.proofs.shelf.Ways.{tells}
 use Rattle.visit.specs.declared.Reading.{Reading}
 use Rattle.visit.specs.declared.Terms.{Terms}
 use Rattle.visit.specs.declared.Visit.{Visit}
-use Rattle.visit.specs.Readings.{gap-of, reading-before, same-reading}
-use Rattle.visit.specs.Visits.{grown, joins, merged, near, single, visit-before}
+use Rattle.visit.specs.Readings.{gap-of, reading-before, same-reading, too-late}
+use Rattle.visit.specs.Visits.{grown, joins, single}
+use Rattle.command.specs.declared.Command.{Command}
+use Rattle.command.specs.declared.Command.the-variants.{Reading as A-reading, Watermark}
+use Rattle.model.specs.Reference.{Reference, after, empty, step}
 use Rattle.model.specs.Sessions.{contains, insert-reading, prepend, visits}
 
 -- Each reading comes before all that follow it.
@@ -44,6 +49,10 @@ before-not-after t x y q = (grind (arith, tells), grind (arith, tells))
 pub unpassed-not-after : (t : Terms) (x y : Reading) → reading-before t y x ≡ false → Not-after x (single y)
 unfolding reading-before
 unpassed-not-after t x y q = (grind (arith, tells), grind (arith, tells))
+
+pub unpassed-next : (t : Terms) (e x : Reading) → reading-before t x e ≡ false → (y : Reading) → reading-before t x y ≡ true → Not-after e (single y)
+unfolding reading-before
+unpassed-next t e x p y q = (grind (arith, tells), grind (arith, tells))
 
 pub before-before : (t : Terms) (x y z : Reading) → reading-before t x y ≡ true → reading-before t y z ≡ true → reading-before t x z ≡ true
 unfolding reading-before
@@ -91,3 +100,36 @@ sorted-not-after t x xs a = visits-not-after t x xs (all-weaker (λ y. reading-b
 pub visits-apart : (t : Terms) (xs : List Reading) → Sorted-readings t xs → Apart t (visits t xs)
 visits-apart t [] s = tt
 visits-apart t (x ∷ xs) s = prepend-apart t x (visits t xs) (sorted-not-after t x xs (s .0)) (visits-apart t xs (s .1))
+
+-- A new reading put at its place keeps readings sorted.
+unpassed-before : (t : Terms) (e x : Reading) → same-reading t e x ≡ false → reading-before t x e ≡ false → reading-before t e x ≡ true
+unfolding same-reading reading-before
+unpassed-before t e x p q = grind (arith, tells)
+
+pub all-insert : (t : Terms) (P : Reading → Type 0) (e : Reading) (xs : List Reading) → P e → All P xs → All P (insert-reading t e xs)
+all-insert t P e [] h a = (h, tt)
+all-insert t P e (x ∷ xs) h a = split (reading-before t x e) (λ q. simp q (a .0, all-insert t P e xs h (a .1))) (λ q. simp q (h, a))
+
+pub insert-sorted : (t : Terms) (e : Reading) (xs : List Reading) → contains t e xs ≡ false → Sorted-readings t xs → Sorted-readings t (insert-reading t e xs)
+insert-sorted t e [] c s = (tt, tt)
+insert-sorted t e (x ∷ xs) c s =
+    let d = or-parts (same-reading t e x) (contains t e xs) c in
+    split (reading-before t x e)
+    (λ q. simp q (all-insert t (λ y. reading-before t x y ≡ true) e xs q (s .0), insert-sorted t e xs (d .1) (s .1)))
+    (λ q. simp q
+        (let b = unpassed-before t e x (d .0) q in
+        ((b, all-weaker (λ y. reading-before t x y ≡ true) (λ y. reading-before t e y ≡ true) (λ y h. before-before t e x y b h) xs (s .0)), s)))
+
+-- Every state of the reference is sorted.
+step-sorted : (t : Terms) (k : Reference) (c : Command) → Sorted-readings t (k .readings) → Sorted-readings t (step t k c .readings)
+step-sorted t k (A-reading e) s =
+    split (too-late t (k .watermark) e) (λ o. simp o s)
+    (λ o. split (contains t e (k .readings)) (λ q. simp (o, q) s) (λ q. simp (o, q) (insert-sorted t e (k .readings) q s)))
+step-sorted t k (Watermark m) s = split (ltb m (k .watermark)) (λ o. simp o s) (λ o. simp o s)
+
+pub after-sorted : (t : Terms) (k : Reference) (cs : List Command) → Sorted-readings t (k .readings) → Sorted-readings t (after t k cs .readings)
+after-sorted t k [] s = s
+after-sorted t k (c ∷ cs) s = after-sorted t (step t k c) cs (step-sorted t k c s)
+
+pub reference-sorted : (t : Terms) (cs : List Command) → Sorted-readings t (after t empty cs .readings)
+reference-sorted t cs = after-sorted t empty cs tt
