@@ -1,3 +1,6 @@
 pub mod Walks
 pub mod Order
 pub mod Merge
+pub mod Same
+pub mod Cards
+pub mod Adding

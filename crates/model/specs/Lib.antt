@@ -3,3 +3,7 @@ pub mod Ledger
 pub mod Reference
 pub mod Store
 pub mod WorkedDay
+pub mod Cards
+pub mod Order
+pub mod AddsUp
+pub mod Right
