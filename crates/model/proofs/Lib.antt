@@ -4,3 +4,4 @@ pub mod Merge
 pub mod Same
 pub mod Cards
 pub mod Adding
+pub mod Partition

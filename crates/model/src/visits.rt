@@ -2,6 +2,7 @@
 ghost use Rattle.model.specs.AddsUp.{Changes-add-up};
 ghost use Rattle.model.specs.Cards.{Cards-apart};
 ghost use Rattle.model.specs.Order.{Any-order};
+ghost use Rattle.model.specs.Right.{Visits-right};
 ghost use Rattle.model.specs.WorkedDay.{WorkedDay};
 
 // A worked day comes out as its table says.
@@ -25,5 +26,11 @@ pub fn any_order()
 // Changes add up to the closed visits.
 pub fn changes_add_up()
     ensures { λ _. ⌜ Changes-add-up ⌝ }
+{
+}
+
+// Visits are what their readings make.
+pub fn visits_right()
+    ensures { λ _. ⌜ Visits-right ⌝ }
 {
 }
