@@ -1,8 +1,8 @@
 -- Changes add up: taking out what is retracted and putting in what is added gives the closed visits.
 use mathlib.Core.Path.{_≡_, refl, sym, ap, _∙_, subst}
-use mathlib.Core.Bool.{Bool, true, false, cond, not, _&&_, _||_}
+use mathlib.Core.Bool.{Bool, true, false, not, _&&_}
 use mathlib.Core.List.{List, [], _∷_}
-use Prim.Native.Nat.{ℕ, _+_, _<_, _≤_}
+use Prim.Native.Nat.{ℕ, _≤_}
 use native.Mathlib.Omega.{arith}
 use Rattle.std.specs.Orderings.{Decides}
 use Rattle.std.specs.declared.result.Result.{Result}
@@ -13,13 +13,11 @@ use Rattle.std.proofs.shelf.Tests.{both-ways, not-true}
 use Rattle.std.proofs.shelf.Ways.{tells}
 use Rattle.visit.specs.declared.Terms.{Terms}
 use Rattle.visit.specs.declared.Visit.{Visit}
-use Rattle.visit.specs.Readings.{gap-of}
 use Rattle.visit.specs.Visits.{closed, same-visit, visit-before}
 use Rattle.command.specs.declared.Command.{Command}
 use Rattle.command.specs.declared.Refusal.{Refusal}
-use Rattle.command.specs.Outcomes.{Outcome, changed, refused}
 use Rattle.model.specs.AddsUp.{All-sound, Changes-add-up, Sound, applied-all, applied-to, put-all-in, put-in}
-use Rattle.model.specs.Reference.{Reference, after, closed-of, empty, outcome, outcome-by, outcomes, plan, state-by, step}
+use Rattle.model.specs.Reference.{Reference, after, closed-of, empty, outcome-by, outcomes, plan, state-by, step}
 use Rattle.model.specs.Sessions.{changes, difference, some, visits}
 use Rattle.model.proofs.Order.{Apart, Follows, Sorted-readings, after-sorted, split, visits-apart}
 use Rattle.model.proofs.Same.{Rising-by, rising-kept, same-members, some-decides}

@@ -1,8 +1,8 @@
 -- Cards have nothing to do with each other: the part of a state that some cards have.
 use mathlib.Core.Path.{_≡_, refl, sym, ap, _∙_}
-use mathlib.Core.Bool.{Bool, true, false, cond, _&&_, _||_}
+use mathlib.Core.Bool.{Bool, true, false}
 use mathlib.Core.List.{List, [], _∷_}
-use Prim.Native.Nat.{ℕ, _+_, _<_, _≤_}
+use Prim.Native.Nat.{ℕ, _<_}
 use native.Mathlib.Omega.{arith}
 use lib.Dec.{ltb}
 use Rattle.std.specs.shelf.Lists.{All, kept-by}
@@ -12,8 +12,8 @@ use Rattle.std.proofs.shelf.Ways.{tells}
 use Rattle.visit.specs.declared.Reading.{Reading}
 use Rattle.visit.specs.declared.Terms.{Terms}
 use Rattle.visit.specs.declared.Visit.{Visit}
-use Rattle.visit.specs.Readings.{gap-of, reading-before, same-reading, too-late}
-use Rattle.visit.specs.Visits.{closed, grown, joins, single}
+use Rattle.visit.specs.Readings.{reading-before, same-reading, too-late}
+use Rattle.visit.specs.Visits.{closed, joins, single}
 use Rattle.command.specs.declared.Command.{Command}
 use Rattle.command.specs.declared.Command.the-variants.{Reading as A-reading, Watermark}
 use Rattle.model.specs.Cards.{Cards-apart, of-cards}
@@ -77,7 +77,7 @@ insert-other t p e (x ∷ xs) h =
     split (reading-before t x e) (λ b. simp (b, ih)) (λ b. simp (b, h))
 
 -- A visit that a reading joins is of its card; past a visit of a later card it joins none.
-joined-card : (t : Terms) (e : Reading) (v : Visit) → joins t e v ≡ true → e .card ≡ v .card
+pub joined-card : (t : Terms) (e : Reading) (v : Visit) → joins t e v ≡ true → e .card ≡ v .card
 unfolding joins
 joined-card t e v h = grind (arith, tells)
 

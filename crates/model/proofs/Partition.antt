@@ -1,68 +1,63 @@
 -- Visits are right: every reading is of exactly one visit, and a visit is what its readings make.
 use mathlib.Core.Path.{_≡_, refl, sym, ap, _∙_, subst}
-use mathlib.Core.Bool.{Bool, true, false, cond, _&&_, _||_}
+use mathlib.Core.Bool.{Bool, true, false, cond}
 use mathlib.Core.List.{List, [], _∷_}
 use Prim.Native.Nat.{ℕ, zero, suc, _+_, _<_, _≤_}
 use native.Mathlib.Omega.{arith}
-use lib.Dec.{eqb, leb}
 use lib.ListN.{length, getD}
-use Rattle.std.specs.shelf.Lists.{All, countBy, kept-by, sumBy}
+use Rattle.std.specs.shelf.Lists.{All, countBy, sumBy}
 use Rattle.std.proofs.shelf.Elements.{all-getD, all-weaker}
 use Rattle.std.proofs.shelf.Sums.{sumBy-cons}
-use Rattle.std.proofs.shelf.Tests.{both-ways}
 use Rattle.std.proofs.shelf.Ways.{tells}
 use Rattle.visit.specs.declared.Reading.{Reading}
 use Rattle.visit.specs.declared.Terms.{Terms}
 use Rattle.visit.specs.declared.Visit.{Visit}
 use Rattle.visit.specs.Readings.{gap-of}
-use Rattle.visit.specs.Visits.{grown, joins, single}
-use Rattle.command.specs.declared.Command.{Command}
+use Rattle.visit.specs.Visits.{grown, joins, single, visit-before}
 use Rattle.model.specs.Reference.{after, empty}
-use Rattle.model.specs.Right.{Goes-on, Right, Right-visit, Unbroken, Visits-right, of-visit, readings-of}
+use Rattle.model.specs.Right.{Goes-on, Right-visit, Unbroken, Visits-right, of-visit, readings-of}
 use Rattle.model.specs.Sessions.{prepend, visits}
 use Rattle.model.proofs.Order.{Apart, Follows, Not-after, Sorted-readings, reference-sorted, sorted-not-after, split, visits-apart}
-use Rattle.model.proofs.Same.{kept-agree, kept-none}
+use Rattle.model.proofs.Same.{kept-agree, kept-none, rising-at}
+use Rattle.model.proofs.Adding.{apart-rising}
+use Rattle.model.proofs.Cards.{joined-card}
 
 -- How many visits a reading is of.
-abbrev pub homes : Reading → List Visit → ℕ
-homes e vs = countBy (λ v. of-visit v e) vs
+abbrev pub visits-with : Reading → List Visit → ℕ
+visits-with e vs = countBy (λ v. of-visit v e) vs
 
-homes-in : (e : Reading) (v : Visit) (vs : List Visit) → of-visit v e ≡ true → homes e (v ∷ vs) ≡ 1 + homes e vs
-homes-in e v vs h = sumBy-cons (λ w. cond (of-visit w e) 1 0) v vs ∙ ap (λ (b : Bool). cond b 1 0 + homes e vs) h
+count-in : (e : Reading) (v : Visit) (vs : List Visit) → of-visit v e ≡ true → visits-with e (v ∷ vs) ≡ 1 + visits-with e vs
+count-in e v vs h = sumBy-cons (λ w. cond (of-visit w e) 1 0) v vs ∙ ap (λ (b : Bool). cond b 1 0 + visits-with e vs) h
 
-homes-out : (e : Reading) (v : Visit) (vs : List Visit) → of-visit v e ≡ false → homes e (v ∷ vs) ≡ homes e vs
-homes-out e v vs h =
-    let q : homes e (v ∷ vs) ≡ 0 + homes e vs = sumBy-cons (λ w. cond (of-visit w e) 1 0) v vs ∙ ap (λ (b : Bool). cond b 1 0 + homes e vs) h in omega arith
+count-out : (e : Reading) (v : Visit) (vs : List Visit) → of-visit v e ≡ false → visits-with e (v ∷ vs) ≡ visits-with e vs
+count-out e v vs h =
+    let q : visits-with e (v ∷ vs) ≡ 0 + visits-with e vs = sumBy-cons (λ w. cond (of-visit w e) 1 0) v vs ∙ ap (λ (b : Bool). cond b 1 0 + visits-with e vs) h in omega arith
 
-homes-none : (e : Reading) (vs : List Visit) → All (λ v. of-visit v e ≡ false) vs → homes e vs ≡ 0
-homes-none e [] a = refl
-homes-none e (v ∷ vs) a = homes-out e v vs (a .0) ∙ homes-none e vs (a .1)
+count-none : (e : Reading) (vs : List Visit) → All (λ v. of-visit v e ≡ false) vs → visits-with e vs ≡ 0
+count-none e [] a = refl
+count-none e (v ∷ vs) a = count-out e v vs (a .0) ∙ count-none e vs (a .1)
 
--- A reading that is of some visit of a list is not of one whose readings none of them can be of.
-not-of : (e : Reading) (v : Visit) (vs : List Visit) → homes e vs ≡ 1 → (of-visit v e ≡ true → All (λ w. of-visit w e ≡ false) vs) → of-visit v e ≡ false
-not-of e v vs h f =
-    split (of-visit v e)
-    (λ o. let z : homes e vs ≡ 0 = homes-none e vs (f o) in absurd (omega arith))
-    (λ o. o)
-
--- A reading that is no visit's: of another card, or before its first time.
-early : (t : Terms) (v : Visit) (e : Reading) → (e .card ≡ v .card → e .time ≤ v .to) → (w : Visit) → Follows t v w → e .card ≡ v .card → of-visit w e ≡ false
-early t v e h w f c = let l = h c in grind (arith, tells)
-
+-- A reading of a visit is of its card and not after its last time, so it is of none that follow.
 of-visit-card : (v : Visit) (e : Reading) → of-visit v e ≡ true → e .card ≡ v .card
 of-visit-card v e h = grind (arith, tells)
 
 of-visit-to : (v : Visit) (e : Reading) → of-visit v e ≡ true → e .time ≤ v .to
 of-visit-to v e h = grind (arith, tells)
 
+too-early : (t : Terms) (v : Visit) (e : Reading) → e .card ≡ v .card → e .time ≤ v .to → (w : Visit) → Follows t v w → of-visit w e ≡ false
+too-early t v e c l w f = grind (arith, tells)
+
 followers-out : (t : Terms) (v : Visit) (e : Reading) (vs : List Visit) → All (Follows t v) vs → e .card ≡ v .card → e .time ≤ v .to → All (λ w. of-visit w e ≡ false) vs
-followers-out t v e vs a c l = all-weaker (Follows t v) (λ w. of-visit w e ≡ false) (λ w f. early t v e (λ _. l) w f c) vs a
+followers-out t v e vs a c l = all-weaker (Follows t v) (λ w. of-visit w e ≡ false) (too-early t v e c l) vs a
 
--- A reading of a visit that all of a list follow is not among those of the list.
-first-only : (t : Terms) (v : Visit) (e : Reading) (vs : List Visit) → All (Follows t v) vs → homes e vs ≡ 1 → of-visit v e ≡ false
-first-only t v e vs a h = not-of e v vs h (λ o. followers-out t v e vs a (of-visit-card v e o) (of-visit-to v e o))
+-- So a reading that is of one of them is not of the visit that they follow.
+not-of-first : (t : Terms) (v : Visit) (e : Reading) (vs : List Visit) → All (Follows t v) vs → visits-with e vs ≡ 1 → of-visit v e ≡ false
+not-of-first t v e vs a h =
+    split (of-visit v e)
+    (λ o. let z = count-none e vs (followers-out t v e vs a (of-visit-card v e o) (of-visit-to v e o)) in absurd (omega arith))
+    (λ o. o)
 
--- The first reading alone.
+-- A reading is of the visit that it makes alone.
 of-single : (e : Reading) → of-visit (single e) e ≡ true
 of-single e = grind (arith, tells)
 
@@ -124,49 +119,45 @@ right-grown t e xs v j l m a r =
 
 -- The state of the induction: every reading has one visit, every visit is right.
 abbrev pub Parted : Terms → List Reading → List Visit → Type 0
-Parted t xs vs = All (λ e. homes e vs ≡ 1) xs × All (Right-visit t xs) vs
+Parted t xs vs = All (λ e. visits-with e vs ≡ 1) xs × All (Right-visit t xs) vs
 
 -- A reading put before all others is a visit of its own ..
 parted-alone : (t : Terms) (e : Reading) (xs : List Reading) (vs : List Visit) → All (Follows t (single e)) vs → Parted t xs vs → Parted t (e ∷ xs) (single e ∷ vs)
 parted-alone t e xs vs a p =
     let out = followers-out t (single e) e vs a refl (omega arith) in
-    let mine = homes-in e (single e) vs (of-single e) ∙ ap (λ (n : ℕ). 1 + n) (homes-none e vs out) in
-    let not-mine = all-weaker (λ x. homes x vs ≡ 1) (λ x. of-visit (single e) x ≡ false) (λ x h. first-only t (single e) x vs a h) xs (p .0) in
-    let theirs = all-weaker (λ x. homes x vs ≡ 1) (λ x. homes x (single e ∷ vs) ≡ 1)
-          (λ x h. homes-out x (single e) vs (first-only t (single e) x vs a h) ∙ h) xs (p .0) in
+    let mine = count-in e (single e) vs (of-single e) ∙ ap (λ (n : ℕ). 1 + n) (count-none e vs out) in
+    let not-mine = all-weaker (λ x. visits-with x vs ≡ 1) (λ x. of-visit (single e) x ≡ false) (λ x h. not-of-first t (single e) x vs a h) xs (p .0) in
+    let theirs = all-weaker (λ x. visits-with x vs ≡ 1) (λ x. visits-with x (single e ∷ vs) ≡ 1)
+          (λ x h. count-out x (single e) vs (not-of-first t (single e) x vs a h) ∙ h) xs (p .0) in
     ((mine, theirs), (right-single t e xs not-mine, right-others t e xs vs out (p .1)))
 
 -- .. or makes the first visit longer, which then has the readings that it had, and this one.
 grown-same : (t : Terms) (e : Reading) (v : Visit) (vs : List Visit) → joins t e v ≡ true → e .time ≤ v .from → All (Follows t v) vs
-    → (x : Reading) → homes x (v ∷ vs) ≡ 1 → of-visit (grown e v) x ≡ of-visit v x
+    → (x : Reading) → visits-with x (v ∷ vs) ≡ 1 → of-visit (grown e v) x ≡ of-visit v x
 grown-same t e v vs j l a x h =
     split (of-visit v x)
     (λ o. let g : of-visit (grown e v) x ≡ true = grind (arith, tells) in g ∙ sym o)
     (λ o.
-        let r : homes x vs ≡ 1 = sym (homes-out x v vs o) ∙ h in
-        not-of x (grown e v) vs r (λ i. followers-out t v x vs a (of-visit-card (grown e v) x i) (of-visit-to (grown e v) x i)) ∙ sym o)
+        let r : visits-with x vs ≡ 1 = sym (count-out x v vs o) ∙ h in
+        not-of-first t (grown e v) x vs a r ∙ sym o)
 
-homes-grown : (e x : Reading) (v w : Visit) (vs : List Visit) → of-visit w x ≡ of-visit v x → homes x (w ∷ vs) ≡ homes x (v ∷ vs)
-homes-grown e x v w vs q =
-    sumBy-cons (λ u. cond (of-visit u x) 1 0) w vs ∙ (ap (λ (b : Bool). cond b 1 0 + homes x vs) q ∙ sym (sumBy-cons (λ u. cond (of-visit u x) 1 0) v vs))
-
-joined-is : (t : Terms) (e : Reading) (v : Visit) → joins t e v ≡ true → e .card ≡ v .card
-unfolding joins
-joined-is t e v j = grind (arith, tells)
+count-like : (x : Reading) (v w : Visit) (vs : List Visit) → of-visit w x ≡ of-visit v x → visits-with x (w ∷ vs) ≡ visits-with x (v ∷ vs)
+count-like x v w vs q =
+    sumBy-cons (λ u. cond (of-visit u x) 1 0) w vs ∙ (ap (λ (b : Bool). cond b 1 0 + visits-with x vs) q ∙ sym (sumBy-cons (λ u. cond (of-visit u x) 1 0) v vs))
 
 parted-grown : (t : Terms) (e : Reading) (xs : List Reading) (v : Visit) (vs : List Visit) → joins t e v ≡ true → Not-after e v → Apart t (v ∷ vs)
     → Parted t xs (v ∷ vs) → Parted t (e ∷ xs) (grown e v ∷ vs)
 parted-grown t e xs v vs j n a p =
-    let c = joined-is t e v j in
+    let c = joined-card t e v j in
     let l : e .time ≤ v .from = n .1 c in
     let m = a .0 in
     let k : e .time ≤ v .to = omega arith in
     let here : of-visit (grown e v) e ≡ true = grind (arith, tells) in
     let out = followers-out t v e vs (a .1) c k in
     let same = grown-same t e v vs j l (a .1) in
-    let agree = all-weaker (λ x. homes x (v ∷ vs) ≡ 1) (λ x. of-visit (grown e v) x ≡ of-visit v x) same xs (p .0) in
-    let mine = homes-in e (grown e v) vs here ∙ ap (λ (i : ℕ). 1 + i) (homes-none e vs out) in
-    let theirs = all-weaker (λ x. homes x (v ∷ vs) ≡ 1) (λ x. homes x (grown e v ∷ vs) ≡ 1) (λ x h. homes-grown e x v (grown e v) vs (same x h) ∙ h) xs (p .0) in
+    let agree = all-weaker (λ x. visits-with x (v ∷ vs) ≡ 1) (λ x. of-visit (grown e v) x ≡ of-visit v x) same xs (p .0) in
+    let mine = count-in e (grown e v) vs here ∙ ap (λ (i : ℕ). 1 + i) (count-none e vs out) in
+    let theirs = all-weaker (λ x. visits-with x (v ∷ vs) ≡ 1) (λ x. visits-with x (grown e v ∷ vs) ≡ 1) (λ x h. count-like x v (grown e v) vs (same x h) ∙ h) xs (p .0) in
     ((mine, theirs), (right-grown t e xs v j l m agree (p .1 .0), right-others t e xs vs out (p .1 .1)))
 
 parted-prepend : (t : Terms) (e : Reading) (xs : List Reading) (vs : List Visit) → All (Not-after e) vs → Apart t vs → Apart t (prepend t e vs) → Parted t xs vs
@@ -200,4 +191,4 @@ visits-right t cs =
     let xs = after t empty cs .readings in
     let s = reference-sorted t cs in
     let p = visits-parted t xs s in
-    record { one = p .0; each = p .1; apart = apart-at t (visits t xs) (visits-apart t xs s) }
+    record { one = p .0; each = p .1; in-order = rising-at (visit-before t) (visits t xs) (apart-rising t (visits t xs) (visits-apart t xs s)); apart = apart-at t (visits t xs) (visits-apart t xs s) }

@@ -1,6 +1,6 @@
 -- Lists in a strict order: what is in them says what they are.
 use mathlib.Core.Path.{_≡_, refl, sym, ap, _∙_, subst}
-use mathlib.Core.Bool.{Bool, true, false, cond, not, _&&_, _||_}
+use mathlib.Core.Bool.{Bool, true, false}
 use mathlib.Core.List.{List, [], _∷_}
 use mathlib.Core.Logic.{_⊎_, inl, inr}
 use Prim.Native.Nat.{ℕ, zero, suc, _<_}
@@ -8,13 +8,12 @@ use native.Mathlib.Omega.{arith}
 use lib.ListN.{length, getD}
 use Rattle.std.specs.Orderings.{Decides}
 use Rattle.std.specs.shelf.Lists.{All, At, Has, kept-by}
-use Rattle.std.proofs.shelf.Elements.{all-has, all-kept-by}
+use Rattle.std.proofs.shelf.Elements.{all-getD, all-has, all-kept-by}
 use Rattle.std.proofs.shelf.Ways.{decides-by-or, tells}
 use Rattle.visit.specs.declared.Reading.{Reading}
 use Rattle.visit.specs.declared.Terms.{Terms}
 use Rattle.visit.specs.Readings.{reading-before}
-use Rattle.command.specs.declared.Command.{Command}
-use Rattle.model.specs.Order.{Any-order, Same-state, Same-taken}
+use Rattle.model.specs.Order.{Any-order}
 use Rattle.model.specs.Reference.{Reference, after, closed-of, empty}
 use Rattle.model.specs.Sessions.{some}
 use Rattle.model.proofs.Order.{Sorted-readings, reference-sorted, split}
@@ -23,6 +22,12 @@ use Rattle.model.proofs.Order.{Sorted-readings, reference-sorted, split}
 abbrev pub Rising-by : {X : Type 0} → (X → X → Bool) → List X → Type 0
 Rising-by before [] = Unit {0}
 Rising-by before (x ∷ xs) = All (λ y. before x y ≡ true) xs × Rising-by before xs
+
+pub rising-at : {X : Type 0} (before : X → X → Bool) (xs : List X) → Rising-by before xs → (i j : ℕ) (d : X) → i < j → j < length xs → before (getD xs i d) (getD xs j d) ≡ true
+rising-at before [] r i j d l h = absurd (omega arith)
+rising-at before (x ∷ xs) r i zero d l h = absurd (omega arith)
+rising-at before (x ∷ xs) r zero (suc j) d l h = all-getD (λ y. before x y ≡ true) xs j d (omega arith) (r .0)
+rising-at before (x ∷ xs) r (suc i) (suc j) d l h = rising-at before xs (r .1) i j d (omega arith) (omega arith)
 
 -- What a list has: its first, what the rest has, and nothing else.
 pub has-here : {X : Type 0} (x : X) (xs : List X) → Has (x ∷ xs) x

@@ -1,6 +1,6 @@
 -- Visits are right: what they say is so of the readings that were taken in.
 use mathlib.Core.Path.{_≡_}
-use mathlib.Core.Bool.{Bool, _&&_}
+use mathlib.Core.Bool.{Bool, true, _&&_}
 use mathlib.Core.List.{List, [], _∷_}
 use Prim.Native.Nat.{ℕ, _+_, _<_, _≤_}
 use lib.Dec.{eqb, leb}
@@ -10,6 +10,7 @@ use Rattle.visit.specs.declared.Reading.{Reading}
 use Rattle.visit.specs.declared.Terms.{Terms}
 use Rattle.visit.specs.declared.Visit.{Visit}
 use Rattle.visit.specs.Readings.{gap-of}
+use Rattle.visit.specs.Visits.{visit-before}
 use Rattle.command.specs.declared.Command.{Command}
 use Rattle.model.specs.Reference.{after, empty}
 use Rattle.model.specs.Sessions.{visits}
@@ -37,10 +38,11 @@ pub record Right-visit (t : Terms) (xs : List Reading) (v : Visit) : Type 0 wher
   pub count : v .count ≡ length (readings-of v xs)
   pub sum : v .sum ≡ sumBy (λ e. e .amount) (readings-of v xs)
 
--- Every reading is of exactly one visit, each visit is right, and two of a card are more than the gap apart.
+-- Every reading is of exactly one visit, each visit is right, they are in order, and two of a card are more than the gap apart.
 pub record Right (t : Terms) (xs : List Reading) (vs : List Visit) : Type 0 where
   pub one : All (λ e. countBy (λ v. of-visit v e) vs ≡ 1) xs
   pub each : All (Right-visit t xs) vs
+  pub in-order : (i j : ℕ) (d : Visit) → i < j → j < length vs → visit-before t (getD vs i d) (getD vs j d) ≡ true
   pub apart :
       (i j : ℕ) (d : Visit) → i < j → j < length vs → getD vs i d .card ≡ getD vs j d .card
       → getD vs i d .to + gap-of t (getD vs i d .card) < getD vs j d .from
