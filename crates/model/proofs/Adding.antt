@@ -64,10 +64,10 @@ in-kept t p v (w ∷ vs) =
     let ih = in-kept t p v vs in
     split (same-visit t v w)
     (λ o.
-        let e : p w ≡ p v = ap p (same-visit-is t v w o) in
-        split (p v)
-        (λ q. let r : p w ≡ true = e ∙ q in simp (o, q, r))
-        (λ q. let r : p w ≡ false = e ∙ q in let i : is-in t v (kept-by p vs) ≡ (is-in t v vs && false) = ih ∙ ap (λ (b : Bool). is-in t v vs && b) q in simp (o, q, r) (i ∙ and-no (is-in t v vs))))
+    let e : p w ≡ p v = ap p (same-visit-is t v w o) in
+    split (p v)
+    (λ q. let r : p w ≡ true = e ∙ q in simp (o, q, r))
+    (λ q. let r : p w ≡ false = e ∙ q in let i : is-in t v (kept-by p vs) ≡ (is-in t v vs && false) = ih ∙ ap (λ (b : Bool). is-in t v vs && b) q in simp (o, q, r) (i ∙ and-no (is-in t v vs))))
     (λ o. split (p w) (λ r. simp (o, r, ih)) (λ r. simp (o, r, ih)))
 
 -- Visits rise by their order where they are apart, and no two come each before the other.
@@ -106,9 +106,9 @@ put-back t p q other (v ∷ vs) r =
     split (p v)
     (λ o. let n : q v ≡ false = other v ∙ ap not o in simp (o, n, behind, ih))
     (λ o.
-        let n : q v ≡ true = other v ∙ ap not o in
-        let front = put-in-front t v (kept-by p vs) (all-kept-by p (λ w. visit-before t v w ≡ true) vs (r .0)) in
-        simp (o, n, front, behind, ih))
+    let n : q v ≡ true = other v ∙ ap not o in
+    let front = put-in-front t v (kept-by p vs) (all-kept-by p (λ w. visit-before t v w ≡ true) vs (r .0)) in
+    simp (o, n, front, behind, ih))
 
 -- What stays of one list is what is in both, and so a part of the other.
 both-in : (a b : Bool) → (a && not (a && not b)) ≡ (b && a)
@@ -123,9 +123,9 @@ stays t vs ws r s =
     let old = difference t vs (difference t vs ws) in
     let new = kept-by (λ w. is-in t w vs) ws in
     let e : (z : Visit) → is-in t z old ≡ is-in t z new =
-          λ z. in-kept t (λ v. not (is-in t v (difference t vs ws))) z vs
-              ∙ (ap (λ (b : Bool). is-in t z vs && not b) (in-kept t (λ v. not (is-in t v ws)) z vs)
-              ∙ (both-in (is-in t z vs) (is-in t z ws) ∙ sym (in-kept t (λ w. is-in t w vs) z ws))) in
+    λ z. in-kept t (λ v. not (is-in t v (difference t vs ws))) z vs
+    ∙ (ap (λ (b : Bool). is-in t z vs && not b) (in-kept t (λ v. not (is-in t v ws)) z vs)
+    ∙ (both-in (is-in t z vs) (is-in t z ws) ∙ sym (in-kept t (λ w. is-in t w vs) z ws))) in
     same-members (visit-before t) (visit-strict t) old new
     (rising-kept (visit-before t) (λ v. not (is-in t v (difference t vs ws))) vs r) (rising-kept (visit-before t) (λ w. is-in t w vs) ws s)
     (λ z h. in-decides t z new .0 (sym (e z) ∙ in-decides t z old .1 h)) (λ z h. in-decides t z old .0 (e z ∙ in-decides t z new .1 h))
@@ -138,11 +138,12 @@ changes-applied t vs ws r s =
 
 -- What is retracted was there, what is added was not.
 pub changes-sound : (t : Terms) (vs ws : List Visit) → Sound vs (changes t vs ws)
-changes-sound t vs ws =
-    (all-kept-by (λ v. not (is-in t v ws)) (Has vs) vs (all-has-itself vs)
-    , all-weaker (λ w. not (is-in t w vs) ≡ true) (λ w. Has vs w → ⊥)
-        (λ w q h. both-ways (is-in t w vs) (not-true (is-in t w vs) q) (in-decides t w vs .1 h))
-        (difference t ws vs) (kept-by-passes (λ w. not (is-in t w vs)) ws))
+changes-sound t vs ws = (
+  all-kept-by (λ v. not (is-in t v ws)) (Has vs) vs (all-has-itself vs),
+  all-weaker (λ w. not (is-in t w vs) ≡ true) (λ w. Has vs w → ⊥)
+      (λ w q h. both-ways (is-in t w vs) (not-true (is-in t w vs) q) (in-decides t w vs .1 h))
+      (difference t ws vs) (kept-by-passes (λ w. not (is-in t w vs)) ws),
+)
 
 -- One command, by its plan, and all of them.
 applied-by : (t : Terms) (k : Reference) (r : Result Reference Refusal) → Sorted-readings t (k .readings) → Sorted-readings t (state-by k r .readings)
@@ -165,9 +166,10 @@ applied-outcomes t k (c ∷ cs) s =
 pub sound-outcomes : (t : Terms) (k : Reference) (cs : List Command) → Sorted-readings t (k .readings) → All-sound t (closed-of t k) (outcomes t k cs)
 sound-outcomes t k [] s = tt
 sound-outcomes t k (c ∷ cs) s =
-    let n = after-sorted t k (c ∷ []) s in
-    (sound-by t k (plan t k c)
-    , subst (λ (vs : List Visit). All-sound t vs (outcomes t (step t k c) cs)) (sym (applied-by t k (plan t k c) s n)) (sound-outcomes t (step t k c) cs n))
+    let n = after-sorted t k (c ∷ []) s in (
+      sound-by t k (plan t k c),
+      subst (λ (vs : List Visit). All-sound t vs (outcomes t (step t k c) cs)) (sym (applied-by t k (plan t k c) s n)) (sound-outcomes t (step t k c) cs n),
+    )
 
 pub changes-add-up : Changes-add-up
 changes-add-up t cs = record { whole = applied-outcomes t empty cs tt; sound = sound-outcomes t empty cs tt }

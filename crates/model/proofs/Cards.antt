@@ -65,10 +65,10 @@ insert-by t p e (x ∷ xs) s h =
     split (reading-before t x e)
     (λ b. split (p (x .card)) (λ o. simp (b, o, ih)) (λ o. simp (b, o, ih)))
     (λ b.
-        let a : All (λ y. reading-before t y e ≡ false) (x ∷ xs) = (b, all-weaker (λ y. reading-before t x y ≡ true) (λ y. reading-before t y e ≡ false) (not-before t e x b) xs (s .0)) in
-        let f = insert-front t e (readings-by p (x ∷ xs)) (all-kept-by (λ y. p (y .card)) (λ y. reading-before t y e ≡ false) (x ∷ xs) a) in
-        let g : readings-by p (insert-reading t e (x ∷ xs)) ≡ e ∷ readings-by p (x ∷ xs) = simp (b, h) in
-        g ∙ sym f)
+    let a : All (λ y. reading-before t y e ≡ false) (x ∷ xs) = (b, all-weaker (λ y. reading-before t x y ≡ true) (λ y. reading-before t y e ≡ false) (not-before t e x b) xs (s .0)) in
+    let f = insert-front t e (readings-by p (x ∷ xs)) (all-kept-by (λ y. p (y .card)) (λ y. reading-before t y e ≡ false) (x ∷ xs) a) in
+    let g : readings-by p (insert-reading t e (x ∷ xs)) ≡ e ∷ readings-by p (x ∷ xs) = simp (b, h) in
+    g ∙ sym f)
 
 insert-other : (t : Terms) (p : ℕ → Bool) (e : Reading) (xs : List Reading) → p (e .card) ≡ false → readings-by p (insert-reading t e xs) ≡ readings-by p xs
 insert-other t p e [] h = simp h
@@ -96,11 +96,11 @@ prepend-by t p e (v ∷ vs) n a h =
     split (joins t e v)
     (λ j. let o : p (v .card) ≡ true = sym (ap p (joined-card t e v j)) ∙ h in simp (j, o))
     (λ j.
-        split (p (v .card)) (λ o. simp (j, o, h))
-        (λ o.
-            let f = all-weaker (Follows t v) (λ w. joins t e w ≡ false) (other-joins t e v (n .0) (apart-by p (e .card) (v .card) h o)) vs (a .1) in
-            let q = prepend-alone t e (visits-by p vs) (all-kept-by (λ w. p (w .card)) (λ w. joins t e w ≡ false) vs f) in
-            simp (j, o, h, q)))
+    split (p (v .card)) (λ o. simp (j, o, h))
+    (λ o.
+    let f = all-weaker (Follows t v) (λ w. joins t e w ≡ false) (other-joins t e v (n .0) (apart-by p (e .card) (v .card) h o)) vs (a .1) in
+    let q = prepend-alone t e (visits-by p vs) (all-kept-by (λ w. p (w .card)) (λ w. joins t e w ≡ false) vs f) in
+    simp (j, o, h, q)))
 
 prepend-other : (t : Terms) (p : ℕ → Bool) (e : Reading) (vs : List Visit) → p (e .card) ≡ false → visits-by p (prepend t e vs) ≡ visits-by p vs
 prepend-other t p e [] h = simp h

@@ -95,26 +95,27 @@ right-single t e xs a =
     }
 
 -- A visit that grew.
+joined-from : (t : Terms) (e : Reading) (v : Visit) → joins t e v ≡ true → v .from ≤ e .time + gap-of t (e .card)
+unfolding joins
+joined-from t e v j = grind (arith, tells)
+
 right-grown : (t : Terms) (e : Reading) (xs : List Reading) (v : Visit) → joins t e v ≡ true → e .time ≤ v .from → v .from ≤ v .to
     → All (λ x. of-visit (grown e v) x ≡ of-visit v x) xs → Right-visit t xs v → Right-visit t (e ∷ xs) (grown e v)
-unfolding joins
 right-grown t e xs v j l m a r =
-    let c : e .card ≡ v .card = grind (arith, tells) in
+    let c = joined-card t e v j in
     let h : of-visit (grown e v) e ≡ true = grind (arith, tells) in
     let n = kept-agree (of-visit (grown e v)) (of-visit v) xs a in
     let q : readings-of (grown e v) (e ∷ xs) ≡ e ∷ readings-of v xs = simp (h, n) in
-    let g : gap-of t (e .card) ≡ gap-of t (v .card) = ap (gap-of t) c in
-    let b : v .from ≤ e .time + gap-of t (e .card) = grind (arith, tells) in
-    let b2 : v .from ≤ e .time + gap-of t (v .card) = omega arith in
+    let b : v .from ≤ e .time + gap-of t (v .card) = subst (λ (i : ℕ). v .from ≤ e .time + gap-of t i) c (joined-from t e v j) in
     record {
       unbroken = subst (λ (es : List Reading). Unbroken (gap-of t (v .card)) (e .time) (v .to) es) (sym q)
-        (refl, goes-on (gap-of t (v .card)) (v .from) (v .to) (e .time) (readings-of v xs) (r .unbroken) l b2);
+          (refl, goes-on (gap-of t (v .card)) (v .from) (v .to) (e .time) (readings-of v xs) (r .unbroken) l b);
       count = (let k = r .count in let z : v .count + 1 ≡ length (e ∷ readings-of v xs) = omega arith in z ∙ ap (λ (es : List Reading). length es) (sym q));
       sum =
-        (let k = r .sum in
-        let s = sumBy-cons (λ x. x .amount) e (readings-of v xs) in
-        let z : v .sum + e .amount ≡ sumBy (λ x. x .amount) (e ∷ readings-of v xs) = omega arith in
-        z ∙ ap (λ (es : List Reading). sumBy (λ x. x .amount) es) (sym q));
+          (let k = r .sum in
+          let s = sumBy-cons (λ x. x .amount) e (readings-of v xs) in
+          let z : v .sum + e .amount ≡ sumBy (λ x. x .amount) (e ∷ readings-of v xs) = omega arith in
+          z ∙ ap (λ (es : List Reading). sumBy (λ x. x .amount) es) (sym q));
     }
 
 -- The state of the induction: every reading has one visit, every visit is right.
@@ -128,18 +129,18 @@ parted-alone t e xs vs a p =
     let mine = count-in e (single e) vs (of-single e) ∙ ap (λ (n : ℕ). 1 + n) (count-none e vs out) in
     let not-mine = all-weaker (λ x. visits-with x vs ≡ 1) (λ x. of-visit (single e) x ≡ false) (λ x h. not-of-first t (single e) x vs a h) xs (p .0) in
     let theirs = all-weaker (λ x. visits-with x vs ≡ 1) (λ x. visits-with x (single e ∷ vs) ≡ 1)
-          (λ x h. count-out x (single e) vs (not-of-first t (single e) x vs a h) ∙ h) xs (p .0) in
+    (λ x h. count-out x (single e) vs (not-of-first t (single e) x vs a h) ∙ h) xs (p .0) in
     ((mine, theirs), (right-single t e xs not-mine, right-others t e xs vs out (p .1)))
 
 -- .. or makes the first visit longer, which then has the readings that it had, and this one.
-grown-same : (t : Terms) (e : Reading) (v : Visit) (vs : List Visit) → joins t e v ≡ true → e .time ≤ v .from → All (Follows t v) vs
+grown-same : (t : Terms) (e : Reading) (v : Visit) (vs : List Visit) → e .time ≤ v .from → All (Follows t v) vs
     → (x : Reading) → visits-with x (v ∷ vs) ≡ 1 → of-visit (grown e v) x ≡ of-visit v x
-grown-same t e v vs j l a x h =
+grown-same t e v vs l a x h =
     split (of-visit v x)
     (λ o. let g : of-visit (grown e v) x ≡ true = grind (arith, tells) in g ∙ sym o)
     (λ o.
-        let r : visits-with x vs ≡ 1 = sym (count-out x v vs o) ∙ h in
-        not-of-first t (grown e v) x vs a r ∙ sym o)
+    let r : visits-with x vs ≡ 1 = sym (count-out x v vs o) ∙ h in
+    not-of-first t (grown e v) x vs a r ∙ sym o)
 
 count-like : (x : Reading) (v w : Visit) (vs : List Visit) → of-visit w x ≡ of-visit v x → visits-with x (w ∷ vs) ≡ visits-with x (v ∷ vs)
 count-like x v w vs q =
@@ -154,7 +155,7 @@ parted-grown t e xs v vs j n a p =
     let k : e .time ≤ v .to = omega arith in
     let here : of-visit (grown e v) e ≡ true = grind (arith, tells) in
     let out = followers-out t v e vs (a .1) c k in
-    let same = grown-same t e v vs j l (a .1) in
+    let same = grown-same t e v vs l (a .1) in
     let agree = all-weaker (λ x. visits-with x (v ∷ vs) ≡ 1) (λ x. of-visit (grown e v) x ≡ of-visit v x) same xs (p .0) in
     let mine = count-in e (grown e v) vs here ∙ ap (λ (i : ℕ). 1 + i) (count-none e vs out) in
     let theirs = all-weaker (λ x. visits-with x (v ∷ vs) ≡ 1) (λ x. visits-with x (grown e v ∷ vs) ≡ 1) (λ x h. count-like x v (grown e v) vs (same x h) ∙ h) xs (p .0) in
@@ -166,12 +167,12 @@ parted-prepend t e xs [] n a b p = parted-alone t e xs [] tt p
 parted-prepend t e xs (v ∷ vs) n a b p =
     split (joins t e v)
     (λ j.
-        let q : prepend t e (v ∷ vs) ≡ grown e v ∷ vs = simp j in
-        subst (λ (ws : List Visit). Parted t (e ∷ xs) ws) (sym q) (parted-grown t e xs v vs j (n .0) a p))
+    let q : prepend t e (v ∷ vs) ≡ grown e v ∷ vs = simp j in
+    subst (λ (ws : List Visit). Parted t (e ∷ xs) ws) (sym q) (parted-grown t e xs v vs j (n .0) a p))
     (λ j.
-        let q : prepend t e (v ∷ vs) ≡ single e ∷ v ∷ vs = simp j in
-        let c : Apart t (single e ∷ v ∷ vs) = subst (λ (ws : List Visit). Apart t ws) q b in
-        subst (λ (ws : List Visit). Parted t (e ∷ xs) ws) (sym q) (parted-alone t e xs (v ∷ vs) (c .1) p))
+    let q : prepend t e (v ∷ vs) ≡ single e ∷ v ∷ vs = simp j in
+    let c : Apart t (single e ∷ v ∷ vs) = subst (λ (ws : List Visit). Apart t ws) q b in
+    subst (λ (ws : List Visit). Parted t (e ∷ xs) ws) (sym q) (parted-alone t e xs (v ∷ vs) (c .1) p))
 
 pub visits-parted : (t : Terms) (xs : List Reading) → Sorted-readings t xs → Parted t xs (visits t xs)
 visits-parted t [] s = (tt, tt)
@@ -191,4 +192,10 @@ visits-right t cs =
     let xs = after t empty cs .readings in
     let s = reference-sorted t cs in
     let p = visits-parted t xs s in
-    record { one = p .0; each = p .1; in-order = rising-at (visit-before t) (visits t xs) (apart-rising t (visits t xs) (visits-apart t xs s)); apart = apart-at t (visits t xs) (visits-apart t xs s) }
+    let a = visits-apart t xs s in
+    record {
+      one = p .0;
+      each = p .1;
+      in-order = rising-at (visit-before t) (visits t xs) (apart-rising t (visits t xs) a);
+      apart = apart-at t (visits t xs) a;
+    }

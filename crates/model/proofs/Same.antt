@@ -78,17 +78,20 @@ either-same : {X : Type 0} (before : X → X → Bool) (strict : (x y : X) → b
     → All (λ z. before x z ≡ true) xs → All (λ z. before y z ≡ true) ys → Has (y ∷ ys) x → Has (x ∷ xs) y → x ≡ y
 either-same before strict x y xs ys a b h g =
     elim (has-cases y ys x h) [
-      inl e ↦ sym e
-    | inr i ↦ elim (has-cases x xs y g) [
-          inl e ↦ e
-        | inr j ↦ absurd (strict y x (all-has (λ z. before y z ≡ true) ys x b i) (all-has (λ z. before x z ≡ true) xs y a j)) ] ]
+      | inl e ↦ sym e
+      | inr i ↦ elim (has-cases x xs y g) [
+        | inl e ↦ e
+        | inr j ↦ absurd (strict y x (all-has (λ z. before y z ≡ true) ys x b i) (all-has (λ z. before x z ≡ true) xs y a j))
+      ]
+    ]
 
 rest-has : {X : Type 0} (before : X → X → Bool) (strict : (x y : X) → before x y ≡ true → before y x ≡ true → ⊥) (x y : X) (xs ys : List X)
     → All (λ z. before x z ≡ true) xs → x ≡ y → ((z : X) → Has (x ∷ xs) z → Has (y ∷ ys) z) → (z : X) → Has xs z → Has ys z
 rest-has before strict x y xs ys a e f z h =
     elim (has-cases y ys z (f z (has-there x xs z h))) [
-      inl q ↦ (let p : before z z ≡ true = subst (λ w. before w z ≡ true) (e ∙ q) (all-has (λ w. before x w ≡ true) xs z a h) in absurd (strict z z p p))
-    | inr i ↦ i ]
+      | inl q ↦ (let p : before z z ≡ true = subst (λ w. before w z ≡ true) (e ∙ q) (all-has (λ w. before x w ≡ true) xs z a h) in absurd (strict z z p p))
+      | inr i ↦ i
+    ]
 
 pub same-members : {X : Type 0} (before : X → X → Bool) (strict : (x y : X) → before x y ≡ true → before y x ≡ true → ⊥) (xs ys : List X)
     → Rising-by before xs → Rising-by before ys → ((z : X) → Has xs z → Has ys z) → ((z : X) → Has ys z → Has xs z) → xs ≡ ys
@@ -98,7 +101,7 @@ same-members before strict (x ∷ xs) [] r s f g = absurd (has-none x (f x (has-
 same-members before strict (x ∷ xs) (y ∷ ys) r s f g =
     let e = either-same before strict x y xs ys (r .0) (s .0) (f x (has-here x xs)) (g y (has-here y ys)) in
     let q = same-members before strict xs ys (r .1) (s .1)
-          (rest-has before strict x y xs ys (r .0) e f) (rest-has before strict y x ys xs (s .0) (sym e) g) in
+    (rest-has before strict x y xs ys (r .0) e f) (rest-has before strict y x ys xs (s .0) (sym e) g) in
     cc (e, q)
 
 -- Readings rise by their order, and no two come each before the other.
@@ -117,8 +120,8 @@ state-of-parts k l p q = ap (λ (xs : List Reading). record { readings = xs; wat
 pub any-order : Any-order
 any-order t cs ds h =
     let p : after t empty cs .readings ≡ after t empty ds .readings =
-          same-members (reading-before t) (reading-strict t) (after t empty cs .readings) (after t empty ds .readings)
-          (sorted-rising t (after t empty cs .readings) (reference-sorted t cs)) (sorted-rising t (after t empty ds .readings) (reference-sorted t ds))
-          (h .here) (h .there) in
+    same-members (reading-before t) (reading-strict t) (after t empty cs .readings) (after t empty ds .readings)
+    (sorted-rising t (after t empty cs .readings) (reference-sorted t cs)) (sorted-rising t (after t empty ds .readings) (reference-sorted t ds))
+    (h .here) (h .there) in
     let e = state-of-parts (after t empty cs) (after t empty ds) p (h .watermark) in
     record { readings = p; closed = ap (λ (k : Reference). closed-of t k) e; whole = e }

@@ -13,7 +13,7 @@ pub record Same-taken (k l : Reference) : Type 0 where
   pub there : (e : Reading) → Has (l .readings) e → Has (k .readings) e
   pub watermark : k .watermark ≡ l .watermark
 
--- Two states are told apart by nothing.
+-- Two states agree in their readings, in their closed visits, and so in everything.
 pub record Same-state (t : Terms) (k l : Reference) : Type 0 where
   pub readings : k .readings ≡ l .readings
   pub closed : closed-of t k ≡ closed-of t l
