@@ -2,3 +2,4 @@ pub mod Sessions
 pub mod Ledger
 pub mod Reference
 pub mod Store
+pub mod Few
