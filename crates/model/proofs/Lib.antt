@@ -1,3 +1,4 @@
 pub mod Walks
 pub mod Order
 pub mod Merge
+pub mod Changes

@@ -266,11 +266,11 @@ follows-not-near : (t : Terms) (u : Visit) → (w : Visit) → Follows t u w →
 unfolding near
 follows-not-near t u w f = grind (arith, tells)
 
-kept-same : {X : Type 0} (p q : X → Bool) (xs : List X) → All (λ x. p x ≡ q x) xs → kept-by p xs ≡ kept-by q xs
+pub kept-same : {X : Type 0} (p q : X → Bool) (xs : List X) → All (λ x. p x ≡ q x) xs → kept-by p xs ≡ kept-by q xs
 kept-same p q [] a = refl
 kept-same p q (x ∷ xs) a = simp (a .0, kept-same p q xs (a .1))
 
-kept-none : {X : Type 0} (p : X → Bool) (xs : List X) → All (λ x. p x ≡ false) xs → kept-by p xs ≡ []
+pub kept-none : {X : Type 0} (p : X → Bool) (xs : List X) → All (λ x. p x ≡ false) xs → kept-by p xs ≡ []
 kept-none p [] a = refl
 kept-none p (x ∷ xs) a = simp (a .0, kept-none p xs (a .1))
 
