@@ -5,3 +5,4 @@ pub mod Same
 pub mod Cards
 pub mod Adding
 pub mod Partition
+pub mod Changes

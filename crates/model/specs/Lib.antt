@@ -7,3 +7,4 @@ pub mod Cards
 pub mod Order
 pub mod AddsUp
 pub mod Right
+pub mod Few

@@ -4,3 +4,5 @@ ghost use Rattle.model.specs.Sessions.{some};
 mod visits;
 
 pub fn placeholder() {}
+
+mod few;
