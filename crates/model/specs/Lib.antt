@@ -2,3 +2,9 @@ pub mod Sessions
 pub mod Ledger
 pub mod Reference
 pub mod Store
+pub mod WorkedDay
+pub mod Cards
+pub mod Order
+pub mod AddsUp
+pub mod Right
+pub mod Few
