@@ -84,7 +84,7 @@ difference-middle t ps ms zs ss a =
     let whole : List Visit = ps ++ (zs ++ ss) in
     let p : difference t ps whole ≡ [] = difference-none t ps whole (all-weaker (In t ps) (In t whole) (in-left t ps (zs ++ ss)) ps (all-in t ps)) in
     let s : difference t ss whole ≡ [] =
-        difference-none t ss whole (all-weaker (In t ss) (In t whole) (λ v h. in-right t ps (zs ++ ss) v (in-right t zs ss v h)) ss (all-in t ss)) in
+    difference-none t ss whole (all-weaker (In t ss) (In t whole) (λ v h. in-right t ps (zs ++ ss) v (in-right t zs ss v h)) ss (all-in t ss)) in
     let m : difference t ms whole ≡ ms = difference-all t ms whole a in
     difference-append t ps (ms ++ ss) whole
     ∙ (ap (λ (l : List Visit). l ++ difference t (ms ++ ss) whole) p
@@ -138,22 +138,22 @@ replaced : (t : Terms) (m : ℕ) (ps ms zs ss : List Visit) → Apart t (ps ++ (
     → difference t (closed-visits t m (ps ++ (ms ++ ss))) (closed-visits t m (ps ++ (zs ++ ss))) ≡ closed-visits t m ms
 replaced t m ps ms zs ss p a =
     let away : All (Absent t (closed-visits t m ps ++ (closed-visits t m zs ++ closed-visits t m ss))) ms =
-        all-weaker (λ v. (Absent t ps v × Absent t ss v) × Absent t zs v) (Absent t (closed-visits t m ps ++ (closed-visits t m zs ++ closed-visits t m ss)))
-        (λ v h. absent-append t (closed-visits t m ps) (closed-visits t m zs ++ closed-visits t m ss) v (some-kept (same-visit t v) (closed t m) ps (h .0 .0))
-            (absent-append t (closed-visits t m zs) (closed-visits t m ss) v (some-kept (same-visit t v) (closed t m) zs (h .1)) (some-kept (same-visit t v) (closed t m) ss (h .0 .1))))
-        ms (all-both (λ v. Absent t ps v × Absent t ss v) (Absent t zs) ms (absent-others t ps ms ss p) a) in
+    all-weaker (λ v. (Absent t ps v × Absent t ss v) × Absent t zs v) (Absent t (closed-visits t m ps ++ (closed-visits t m zs ++ closed-visits t m ss)))
+    (λ v h. absent-append t (closed-visits t m ps) (closed-visits t m zs ++ closed-visits t m ss) v (some-kept (same-visit t v) (closed t m) ps (h .0 .0))
+    (absent-append t (closed-visits t m zs) (closed-visits t m ss) v (some-kept (same-visit t v) (closed t m) zs (h .1)) (some-kept (same-visit t v) (closed t m) ss (h .0 .1))))
+    ms (all-both (λ v. Absent t ps v × Absent t ss v) (Absent t zs) ms (absent-others t ps ms ss p) a) in
     ap (λ (l : List Visit). difference t l (closed-visits t m (ps ++ (zs ++ ss)))) (closed-parts t m ps ms ss)
     ∙ (ap (λ (l : List Visit). difference t (closed-visits t m ps ++ (closed-visits t m ms ++ closed-visits t m ss)) l) (closed-parts t m ps zs ss)
     ∙ difference-middle t (closed-visits t m ps) (closed-visits t m ms) (closed-visits t m zs) (closed-visits t m ss)
-        (all-kept-by (closed t m) (Absent t (closed-visits t m ps ++ (closed-visits t m zs ++ closed-visits t m ss))) ms away))
+    (all-kept-by (closed t m) (Absent t (closed-visits t m ps ++ (closed-visits t m zs ++ closed-visits t m ss))) ms away))
 
 changes-replaced : (t : Terms) (m : ℕ) (vs ws ps ms zs ss : List Visit) → vs ≡ ps ++ (ms ++ ss) → ws ≡ ps ++ (zs ++ ss) → Apart t vs → Apart t ws
     → All (Absent t zs) ms → All (Absent t ms) zs → changes t (closed-visits t m vs) (closed-visits t m ws) ≡ changed (closed-visits t m ms) (closed-visits t m zs)
 changes-replaced t m vs ws ps ms zs ss p q h k a b =
     let gone : difference t (closed-visits t m vs) (closed-visits t m ws) ≡ closed-visits t m ms =
-        rw (p, q) (replaced t m ps ms zs ss (subst (Apart t) p h) a) in
+    rw (p, q) (replaced t m ps ms zs ss (subst (Apart t) p h) a) in
     let new : difference t (closed-visits t m ws) (closed-visits t m vs) ≡ closed-visits t m zs =
-        rw (p, q) (replaced t m ps zs ms ss (subst (Apart t) q k) b) in
+    rw (p, q) (replaced t m ps zs ms ss (subst (Apart t) q k) b) in
     cc (gone, new)
 
 -- A visit made of others has more readings than each, and ends no earlier than the first.
@@ -199,16 +199,16 @@ taken-in t k e gone new h =
     split (too-late t (k .watermark) e)
     (λ o. let r : refused (TooLate (e .time)) ≡ changed gone new = simp o at h in cc)
     (λ o. split (contains t e (k .readings))
-        (λ q. let r : refused (Duplicate (e .time)) ≡ changed gone new = simp (o, q) at h in cc)
-        (λ q. simp (o, q) at h))
+    (λ q. let r : refused (Duplicate (e .time)) ≡ changed gone new = simp (o, q) at h in cc)
+    (λ q. simp (o, q) at h))
 
 pub only-what-is-met : Only-what-is-met
 only-what-is-met t cs e gone new h =
     let k : Reference = after t empty cs in
     let s = reference-sorted t cs in
     let q : changed (closed-visits t (k .watermark) (met t k e)) (closed-visits t (k .watermark) (became t k e ∷ [])) ≡ changed gone new =
-        sym (merging-changes t (k .watermark) e (visits t (k .readings)) (visits-apart t (k .readings) s))
-        ∙ (sym (ap (λ (l : List Visit). changes t (closed-of t k) (closed-visits t (k .watermark) l)) (insert-merges t e (k .readings) s)) ∙ taken-in t k e gone new h) in
+    sym (merging-changes t (k .watermark) e (visits t (k .readings)) (visits-apart t (k .readings) s))
+    ∙ (sym (ap (λ (l : List Visit). changes t (closed-of t k) (closed-visits t (k .watermark) l)) (insert-merges t e (k .readings) s)) ∙ taken-in t k e gone new h) in
     (cc q, cc q)
 
 -- So it changes few visits, and none if it is on time.
@@ -233,10 +233,11 @@ later-open t m v h = grind (arith, tells)
 pub on-time : On-time
 on-time t cs e gone new h o =
     let k : Reference = after t empty cs in
-    let q = only-what-is-met t cs e gone new o in
-    (q .0 ∙ kept-none (closed t (k .watermark)) (met t k e)
-        (all-weaker (λ v. near t (single e) v ≡ true) (λ v. closed t (k .watermark) v ≡ false) (near-open t (k .watermark) e h) (met t k e) (kept-by-passes (near t (single e)) (visits t (k .readings)))),
-    q .1 ∙ kept-none (closed t (k .watermark)) (became t k e ∷ []) (later-open t (k .watermark) (became t k e) (omega (arith, with-to (single e) (met t k e))), tt))
+    let q = only-what-is-met t cs e gone new o in (
+      q .0 ∙ kept-none (closed t (k .watermark)) (met t k e)
+          (all-weaker (λ v. near t (single e) v ≡ true) (λ v. closed t (k .watermark) v ≡ false) (near-open t (k .watermark) e h) (met t k e) (kept-by-passes (near t (single e)) (visits t (k .readings)))),
+      q .1 ∙ kept-none (closed t (k .watermark)) (became t k e ∷ []) (later-open t (k .watermark) (became t k e) (omega (arith, with-to (single e) (met t k e))), tt),
+    )
 
 -- What is closed stays closed as the watermark rises.
 closed-on : (t : Terms) (m n : ℕ) (v : Visit) → m ≤ n → closed t m v ≡ true → closed t n v ≡ true
@@ -248,7 +249,7 @@ closed-in t m n [] h = tt
 closed-in t m n (v ∷ vs) h =
     split (closed t n v)
     (λ o. let rest = all-weaker (In t (closed-visits t n vs)) (In t (v ∷ closed-visits t n vs)) (λ w i. or-right (same-visit t w v) (some (same-visit t w) (closed-visits t n vs)) i) (closed-visits t m vs) (closed-in t m n vs h) in
-        split (closed t m v) (λ q. simp (o, q) (simp (same-itself t v), rest)) (λ q. simp (o, q) rest))
+    split (closed t m v) (λ q. simp (o, q) (simp (same-itself t v), rest)) (λ q. simp (o, q) rest))
     (λ o. split (closed t m v) (λ q. let bad : _≡_ {A = ℕ} 0 1 = cc (o, closed-on t m n v h q) in elim (never bad) [ ]) (λ q. simp (o, q) (closed-in t m n vs h)))
 
 pub watermark-adds : Watermark-adds
@@ -256,6 +257,6 @@ watermark-adds t k m gone new h =
     split (ltb m (k .watermark))
     (λ o. let r : refused (Backwards m) ≡ changed gone new = simp o at h in cc)
     (λ o. let r : changes t (closed-of t k) (closed-visits t m (visits t (k .readings))) ≡ changed gone new = simp o at h in
-        let n : difference t (closed-of t k) (closed-visits t m (visits t (k .readings))) ≡ [] =
-            difference-none t (closed-of t k) (closed-visits t m (visits t (k .readings))) (closed-in t (k .watermark) m (visits t (k .readings)) (ltb-false m (k .watermark) o)) in
-        cc (r, n))
+    let n : difference t (closed-of t k) (closed-visits t m (visits t (k .readings))) ≡ [] =
+    difference-none t (closed-of t k) (closed-visits t m (visits t (k .readings))) (closed-in t (k .watermark) m (visits t (k .readings)) (ltb-false m (k .watermark) o)) in
+    cc (r, n))

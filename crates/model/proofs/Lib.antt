@@ -6,3 +6,4 @@ pub mod Cards
 pub mod Adding
 pub mod Partition
 pub mod Changes
+pub mod Runs

@@ -113,7 +113,7 @@ joins-through t x w [] o h a p = simp o
 joins-through t x w (v ∷ vs) o h a p =
     split (near t w v)
     (λ n. simp (n, grown-near t x w v o (a .0) (p .0) n, grown-merged t x w v o n (a .0))
-        (joins-through t x (merged w v) vs (joins-merged t x w v o n) (merged-order w v h) (a .1) (p .2)))
+    (joins-through t x (merged w v) vs (joins-merged t x w v o n) (merged-order w v h) (a .1) (p .2)))
     (λ n. simp (n, grown-unpassed t x w v o (a .0) (p .0) h n, grown-far t x w v o (a .0) (p .0) h n, grown-stops t x w v o (a .0), o))
 
 -- A reading that is far from the visit that is merged and from all others.
@@ -172,23 +172,23 @@ front-merge t x u [] l h a p =
 front-merge t x u (v ∷ vs) l h a p =
     split (near t u v)
     (λ n. split (joins t x v)
-        (λ o. simp (n, o, near-grown t x u v l h o n, merged-grown t x u v l o n)
-            (joins-through t x (merged u v) vs (joins-merged-right t x u v o n) (merged-order u v h) (a .1) (p .2)))
-        (λ o. split (joins t x u)
-            (λ j. simp (n, o, near-joins t x u l h, j, ap (λ (w : Visit). near t w v) (merged-single t x u l h j) ∙ grown-near t x u v j (a .0) (p .0) n)
-                (joins-through t x (merged u v) vs (joins-merged t x u v j n) (merged-order u v h) (a .1) (p .2)
-                ∙ ap (λ (w : Visit). merge-in t w vs) (sym (ap (λ (w : Visit). merged w v) (merged-single t x u l h j) ∙ grown-merged t x u v j n (a .0)))))
-            (λ j. simp (n, o, near-joins t x u l h, j, far-before t x u l j)
-                (far-through t x (merged u v) vs (far-merged t x u v j o n)
-                    (all-weaker (Follows t v) (λ w. joins t x w ≡ false) (follows-unjoined t x v (a .0) (p .0)) vs (p .1))))))
+    (λ o. simp (n, o, near-grown t x u v l h o n, merged-grown t x u v l o n)
+    (joins-through t x (merged u v) vs (joins-merged-right t x u v o n) (merged-order u v h) (a .1) (p .2)))
+    (λ o. split (joins t x u)
+    (λ j. simp (n, o, near-joins t x u l h, j, ap (λ (w : Visit). near t w v) (merged-single t x u l h j) ∙ grown-near t x u v j (a .0) (p .0) n)
+    (joins-through t x (merged u v) vs (joins-merged t x u v j n) (merged-order u v h) (a .1) (p .2)
+    ∙ ap (λ (w : Visit). merge-in t w vs) (sym (ap (λ (w : Visit). merged w v) (merged-single t x u l h j) ∙ grown-merged t x u v j n (a .0)))))
+    (λ j. simp (n, o, near-joins t x u l h, j, far-before t x u l j)
+    (far-through t x (merged u v) vs (far-merged t x u v j o n)
+    (all-weaker (Follows t v) (λ w. joins t x w ≡ false) (follows-unjoined t x v (a .0) (p .0)) vs (p .1))))))
     (λ n. split (visit-before t v u)
-        (λ b. split (joins t x v)
-            (λ o. simp (n, b, o, passed-grown-far t x u v (p .0) h n b, passed-grown t x u v (a .0) o b))
-            (λ o. let j = passed-far t x u v (a .0) (p .0) h n b in simp (n, b, o, near-joins t x u l h, j, far-before t x u l j)))
-        (λ b. let o = stop-far t x u v l h (p .0) n b in
-            split (joins t x u)
-            (λ j. simp (n, b, o, near-joins t x u l h, j, merged-single t x u l h j, grown-far t x u v j (a .0) (p .0) h n, grown-stops t x u v j (a .0)))
-            (λ j. simp (n, b, o, near-joins t x u l h, j, far-before t x u l j))))
+    (λ b. split (joins t x v)
+    (λ o. simp (n, b, o, passed-grown-far t x u v (p .0) h n b, passed-grown t x u v (a .0) o b))
+    (λ o. let j = passed-far t x u v (a .0) (p .0) h n b in simp (n, b, o, near-joins t x u l h, j, far-before t x u l j)))
+    (λ b. let o = stop-far t x u v l h (p .0) n b in
+    split (joins t x u)
+    (λ j. simp (n, b, o, near-joins t x u l h, j, merged-single t x u l h j, grown-far t x u v j (a .0) (p .0) h n, grown-stops t x u v j (a .0)))
+    (λ j. simp (n, b, o, near-joins t x u l h, j, far-before t x u l j))))
 
 -- A reading in front of all is merged as it is put there.
 prepend-merges : (t : Terms) (e : Reading) (vs : List Visit) → All (Not-after e) vs → Apart t vs → prepend t e vs ≡ merge-in t (single e) vs
@@ -196,7 +196,7 @@ prepend-merges t e [] a p = refl
 prepend-merges t e (v ∷ vs) a p =
     split (joins t e v)
     (λ o. simp (single-near t e v (a .0) (p .0), o, single-merged t e v (a .0) (p .0) o)
-        (sym (merge-apart t (grown e v) vs (joined-time t e v (a .0) (p .0) o .2) (p .1) (p .2))))
+    (sym (merge-apart t (grown e v) vs (joined-time t e v (a .0) (p .0) o .2) (p .1) (p .2))))
     (λ o. simp (single-near t e v (a .0) (p .0), o, not-before t e v (a .0)))
 
 -- To put a reading among others is to merge its visit into theirs.
@@ -205,12 +205,12 @@ insert-merges t e [] s = refl
 insert-merges t e (x ∷ xs) s =
     split (reading-before t x e)
     (λ q. simp q
-        (ap (prepend t x) (insert-merges t e xs (s .1))
-        ∙ front-merge t x (single e) (visits t xs) (before-not-after t x e q) (omega arith) (sorted-not-after t x xs (s .0)) (visits-apart t xs (s .1))))
+    (ap (prepend t x) (insert-merges t e xs (s .1))
+    ∙ front-merge t x (single e) (visits t xs) (before-not-after t x e q) (omega arith) (sorted-not-after t x xs (s .0)) (visits-apart t xs (s .1))))
     (λ q. simp q
-        (prepend-merges t e (visits t (x ∷ xs))
-            (visits-not-after t e (x ∷ xs) (unpassed-not-after t e x q, all-weaker (λ y. reading-before t x y ≡ true) (λ y. Not-after e (single y)) (unpassed-next t e x q) xs (s .0)))
-            (visits-apart t (x ∷ xs) s)))
+    (prepend-merges t e (visits t (x ∷ xs))
+    (visits-not-after t e (x ∷ xs) (unpassed-not-after t e x q, all-weaker (λ y. reading-before t x y ≡ true) (λ y. Not-after e (single y)) (unpassed-next t e x q) xs (s .0)))
+    (visits-apart t (x ∷ xs) s)))
 
 -- Merging keeps visits in order and apart.
 all-merge : (t : Terms) (P : Visit → Type 0) → ((a b : Visit) → near t a b ≡ true → P a → P b → P (merged a b)) → (u : Visit) (vs : List Visit) → P u → All P vs → All P (merge-in t u vs)
@@ -219,8 +219,8 @@ all-merge t P both u (v ∷ vs) h a =
     split (near t u v)
     (λ n. simp n (all-merge t P both (merged u v) vs (both u v n h (a .0)) (a .1)))
     (λ n. split (visit-before t v u)
-        (λ b. simp (n, b) (a .0, all-merge t P both u vs h (a .1)))
-        (λ b. simp (n, b) (h, a)))
+    (λ b. simp (n, b) (a .0, all-merge t P both u vs h (a .1)))
+    (λ b. simp (n, b) (h, a)))
 
 follows-merged : (t : Terms) (v a b : Visit) → near t a b ≡ true → Follows t v a → Follows t v b → Follows t v (merged a b)
 unfolding near
@@ -246,9 +246,9 @@ merge-keeps-apart t u (v ∷ vs) h p =
     split (near t u v)
     (λ n. simp n (merge-keeps-apart t (merged u v) vs (merged-order u v h) (p .2)))
     (λ n. split (visit-before t v u)
-        (λ b. simp (n, b)
-            (p .0, all-merge t (Follows t v) (follows-merged t v) u vs (passed-follows t u v (p .0) h n b) (p .1), merge-keeps-apart t u vs h (p .2)))
-        (λ b. simp (n, b) (let f = stopped-follows t u v (p .0) h n b in (h, (f, all-follow t u v vs f (p .0) (p .1)), p))))
+    (λ b. simp (n, b)
+    (p .0, all-merge t (Follows t v) (follows-merged t v) u vs (passed-follows t u v (p .0) h n b) (p .1), merge-keeps-apart t u vs h (p .2)))
+    (λ b. simp (n, b) (let f = stopped-follows t u v (p .0) h n b in (h, (f, all-follow t u v vs f (p .0) (p .1)), p))))
 
 -- The visits that are taken in are those near to the first, at every stage.
 near-same : (t : Terms) (u v : Visit) → u .from ≤ u .to → near t u v ≡ true → v .from ≤ v .to → (w : Visit) → Follows t v w × (w .from ≤ w .to) → near t (merged u v) w ≡ near t u w
@@ -291,12 +291,14 @@ reached t u [] h p a = ([], refl, refl)
 reached t u (v ∷ vs) h p a =
     split (near t u v)
     (λ n. let r = reached t (merged u v) vs (merged-order u v h) (p .2) (all-weaker (Follows t v) (Unpassed t (merged u v)) (follows-unpassed t u v (p .0) n) vs (p .1)) in
-        let q = near-ones-same t u v vs h n (p .0) (p .1) (p .2) in
-        (r .0, simp n (ap (λ (l : List Visit). v ∷ l) (r .1 ∙ ap (λ (l : List Visit). l ++ r .0) q)),
-            simp n (r .2 ∙ ap (λ (l : List Visit). merged-with (merged u v) l ∷ r .0) q)))
+    let q = near-ones-same t u v vs h n (p .0) (p .1) (p .2) in (
+      r .0,
+      simp n (ap (λ (l : List Visit). v ∷ l) (r .1 ∙ ap (λ (l : List Visit). l ++ r .0) q)),
+      simp n (r .2 ∙ ap (λ (l : List Visit). merged-with (merged u v) l ∷ r .0) q),
+    ))
     (λ n. let f = stopped-follows t u v (p .0) h n (a .0 n) in
-        let q : near-ones t u (v ∷ vs) ≡ [] = simp n (kept-none (near t u) vs (all-weaker (Follows t u) (λ w. near t u w ≡ false) (follows-not-near t u) vs (all-follow t u v vs f (p .0) (p .1)))) in
-        (v ∷ vs, ap (λ (l : List Visit). l ++ (v ∷ vs)) (sym q), merge-apart t u (v ∷ vs) h (f, all-follow t u v vs f (p .0) (p .1)) p ∙ ap (λ (l : List Visit). merged-with u l ∷ v ∷ vs) (sym q)))
+    let q : near-ones t u (v ∷ vs) ≡ [] = simp n (kept-none (near t u) vs (all-weaker (Follows t u) (λ w. near t u w ≡ false) (follows-not-near t u) vs (all-follow t u v vs f (p .0) (p .1)))) in
+    (v ∷ vs, ap (λ (l : List Visit). l ++ (v ∷ vs)) (sym q), merge-apart t u (v ∷ vs) h (f, all-follow t u v vs f (p .0) (p .1)) p ∙ ap (λ (l : List Visit). merged-with u l ∷ v ∷ vs) (sym q)))
 
 -- The parts of visits into which one is merged: those in front and behind stay, the near ones between them become one.
 pub record Merged-at (t : Terms) (u : Visit) (vs : List Visit) : Type 0 where
@@ -331,8 +333,8 @@ merge-shape t u (v ∷ vs) h p =
     split (near t u v)
     (λ n. from-here t u (v ∷ vs) (reached t u (v ∷ vs) h p ((λ q. cc), all-weaker (Follows t v) (Unpassed t u) (near-unpassed t u v h n (p .0)) vs (p .1))))
     (λ n. split (visit-before t v u)
-        (λ b. passed-on t u v vs n b (merge-shape t u vs h (p .2)))
-        (λ b. from-here t u (v ∷ vs) (reached t u (v ∷ vs) h p ((λ _. b), all-weaker (Follows t v) (Unpassed t u) (unpassed-all t u v b (p .0)) vs (p .1)))))
+    (λ b. passed-on t u v vs n b (merge-shape t u vs h (p .2)))
+    (λ b. from-here t u (v ∷ vs) (reached t u (v ∷ vs) h p ((λ _. b), all-weaker (Follows t v) (Unpassed t u) (unpassed-all t u v b (p .0)) vs (p .1)))))
 
 -- A reading's own visit is near to two others at most, if these are apart.
 third-far : (t : Terms) (e : Reading) (v w : Visit) → near t (single e) v ≡ true → Follows t v w → w .from ≤ w .to → (x : Visit) → Follows t w x → near t (single e) x ≡ false
@@ -344,7 +346,7 @@ near-one t e v [] n a p = omega arith
 near-one t e v (w ∷ ws) n a p =
     split (near t (single e) w)
     (λ o. let q : near-ones t (single e) ws ≡ [] = kept-none (near t (single e)) ws (all-weaker (Follows t w) (λ x. near t (single e) x ≡ false) (third-far t e v w n (a .0) (p .0)) ws (p .1)) in
-        simp (o, q) (omega arith))
+    simp (o, q) (omega arith))
     (λ o. simp o (near-one t e v ws n (a .1) (p .2)))
 
 pub near-two : (t : Terms) (e : Reading) (vs : List Visit) → Apart t vs → length (near-ones t (single e) vs) ≤ 2

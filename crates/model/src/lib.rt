@@ -1,8 +1,4 @@
-// The definitions stand in specs/. A function here carries a theorem about them: its contract is the statement.
-ghost use Rattle.model.specs.Sessions.{some};
-
-mod visits;
-
-pub fn placeholder() {}
-
-mod few;
+// The definitions stand in specs/. A function here carries a theorem about them: its contract is the statement,
+// and nothing is computed.
+pub mod few;
+pub mod visits;
