@@ -1,3 +1,5 @@
 pub mod Walks
 pub mod Order
 pub mod Merge
+pub mod Expiry
+pub mod Totals
