@@ -3,3 +3,4 @@ pub mod Order
 pub mod Merge
 pub mod Expiry
 pub mod Totals
+pub mod Mirror
