@@ -112,14 +112,14 @@ live-merge t m u [] h l r p = simp l
 live-merge t m u (w ∷ ws) h l r p =
     split (near t u w)
     (λ n.
-        let k : live t m w ≡ true = r .0 n in
-        let ih = live-merge t m (merged u w) ws (merged-order t u w h) (merged-live t m u w n l) (merged-reaches t m u w ws n k (p .1) (p .2)) (p .2) in
-        simp (k, n, ih))
+    let k : live t m w ≡ true = r .0 n in
+    let ih = live-merge t m (merged u w) ws (merged-order t u w h) (merged-live t m u w n l) (merged-reaches t m u w ws n k (p .1) (p .2)) (p .2) in
+    simp (k, n, ih))
     (λ n. split (visit-before t w u)
-        (λ b. let ih = live-merge t m u ws h l (r .1) (p .2) in split (live t m w) (λ k. simp (n, b, k, ih)) (λ k. simp (n, b, k, ih)))
-        (λ b. split (live t m w)
-            (λ k. simp (n, b, k, l))
-            (λ k. let q = stays-first t m u w ws (dead-stop t m u w h (p .0) l k n b) (p .1) in simp (n, b, k, l, q))))
+    (λ b. let ih = live-merge t m u ws h l (r .1) (p .2) in split (live t m w) (λ k. simp (n, b, k, ih)) (λ k. simp (n, b, k, ih)))
+    (λ b. split (live t m w)
+    (λ k. simp (n, b, k, l))
+    (λ k. let q = stays-first t m u w ws (dead-stop t m u w h (p .0) l k n b) (p .1) in simp (n, b, k, l, q))))
 
 -- The same visit passes the same tests.
 same-parts : (c f l n s c′ f′ l′ n′ s′ : ℕ) → c ≡ c′ → f ≡ f′ → l ≡ l′ → n ≡ n′ → s ≡ s′
@@ -147,13 +147,13 @@ dead-merge t m v d u [] l r p = let q = differ t (live t m) v u d l in simp q
 dead-merge t m v d u (w ∷ ws) l r p =
     split (near t u w)
     (λ n.
-        let k : live t m w ≡ true = r .0 n in
-        let q = differ t (live t m) v w d k in
-        let ih = dead-merge t m v d (merged u w) ws (merged-live t m u w n l) (merged-reaches t m u w ws n k (p .1) (p .2)) (p .2) in
-        simp (n, q, ih))
+    let k : live t m w ≡ true = r .0 n in
+    let q = differ t (live t m) v w d k in
+    let ih = dead-merge t m v d (merged u w) ws (merged-live t m u w n l) (merged-reaches t m u w ws n k (p .1) (p .2)) (p .2) in
+    simp (n, q, ih))
     (λ n. split (visit-before t w u)
-        (λ b. let ih = dead-merge t m v d u ws l (r .1) (p .2) in simp (n, b, ih))
-        (λ b. let q = differ t (live t m) v u d l in simp (n, b, q)))
+    (λ b. let ih = dead-merge t m v d u ws l (r .1) (p .2) in simp (n, b, ih))
+    (λ b. let q = differ t (live t m) v u d l in simp (n, b, q)))
 
 -- A visit is among those that pass a test if it passes and is among all.
 pub some-kept : (t : Terms) (p : Visit → Bool) (v : Visit) (ws : List Visit) → some (same-visit t v) (kept-by p ws) ≡ (p v && some (same-visit t v) ws)
@@ -189,7 +189,7 @@ difference-is : (t : Terms) (p q : Visit → Bool) (vs ws : List Visit)
 difference-is t p q vs ws =
     kept-twice (λ v. not (some (same-visit t v) (kept-by q ws))) p vs
     ∙ kept-alike (λ v. p v && not (some (same-visit t v) (kept-by q ws))) (λ v. p v && not (q v && some (same-visit t v) ws))
-        (λ v. ap (λ (b : Bool). p v && not b) (some-kept t q v ws)) vs
+    (λ v. ap (λ (b : Bool). p v && not b) (some-kept t q v ws)) vs
 
 pub difference-live : (t : Terms) (m n k : ℕ) (vs ws : List Visit)
     → ((v : Visit) → live t m v ≡ false → (closed t n v ≡ true) × (closed t k v ≡ true))
@@ -198,12 +198,12 @@ pub difference-live : (t : Terms) (m n k : ℕ) (vs ws : List Visit)
 difference-live t m n k vs ws c d =
     difference-is t (closed t n) (closed t k) vs ws
     ∙ kept-same (λ v. closed t n v && not (closed t k v && some (same-visit t v) ws)) (λ v. (live t m v && closed t n v) && not (live t m v && (closed t k v && some (same-visit t v) ws))) vs
-        (all-weaker (λ v. some (same-visit t v) vs ≡ true)
-            (λ v. (closed t n v && not (closed t k v && some (same-visit t v) ws)) ≡ ((live t m v && closed t n v) && not (live t m v && (closed t k v && some (same-visit t v) ws))))
-            (λ v h. difference-kept (closed t n v) (closed t k v) (live t m v) (some (same-visit t v) ws) (c v) (λ o. sym (d v o) ∙ h)) vs (all-in-itself t vs))
+    (all-weaker (λ v. some (same-visit t v) vs ≡ true)
+    (λ v. (closed t n v && not (closed t k v && some (same-visit t v) ws)) ≡ ((live t m v && closed t n v) && not (live t m v && (closed t k v && some (same-visit t v) ws))))
+    (λ v h. difference-kept (closed t n v) (closed t k v) (live t m v) (some (same-visit t v) ws) (c v) (λ o. sym (d v o) ∙ h)) vs (all-in-itself t vs))
     ∙ sym (rw (kept-twice (closed t n) (live t m) vs, kept-twice (closed t k) (live t m) ws) (difference-is t (λ v. live t m v && closed t n v) (λ v. live t m v && closed t k v) vs ws
-        ∙ kept-alike (λ v. (live t m v && closed t n v) && not ((live t m v && closed t k v) && some (same-visit t v) ws)) (λ v. (live t m v && closed t n v) && not (live t m v && (closed t k v && some (same-visit t v) ws)))
-            (λ v. ap (λ (b : Bool). (live t m v && closed t n v) && not b) (and-assoc (live t m v) (closed t k v) (some (same-visit t v) ws))) vs))
+    ∙ kept-alike (λ v. (live t m v && closed t n v) && not ((live t m v && closed t k v) && some (same-visit t v) ws)) (λ v. (live t m v && closed t n v) && not (live t m v && (closed t k v && some (same-visit t v) ws)))
+    (λ v. ap (λ (b : Bool). (live t m v && closed t n v) && not b) (and-assoc (live t m v) (closed t k v) (some (same-visit t v) ws))) vs))
   where
     and-assoc : (a b c : Bool) → ((a && b) && c) ≡ (a && (b && c))
     and-assoc true b c = refl

@@ -64,14 +64,14 @@ draft-reading t k ls s e =
     split (too-late t (k .watermark) e)
     (λ l. simp l)
     (λ l.
-        let c = contains-kept t (k .watermark) e (k .readings) l in
-        split (contains t e (k .readings))
-        (λ o. let d = c ∙ o in simp (l, o, d))
-        (λ o.
-            let d = c ∙ o in
-            let i = insert-kept t (k .watermark) e (k .readings) l s in
-            let v = live-insert t (k .watermark) e (k .readings) s l in
-            simp (l, o, d, i, v)))
+    let c = contains-kept t (k .watermark) e (k .readings) l in
+    split (contains t e (k .readings))
+    (λ o. let d = c ∙ o in simp (l, o, d))
+    (λ o.
+    let d = c ∙ o in
+    let i = insert-kept t (k .watermark) e (k .readings) l s in
+    let v = live-insert t (k .watermark) e (k .readings) s l in
+    simp (l, o, d, i, v)))
 
 pub draft-watermark : (t : Terms) (k : Reference) (ls : List Line) (m : ℕ) → draft t (mirror t k ls) (Watermark m) ≡ drafted-by t (k .watermark) (plan t k (Watermark m))
 draft-watermark t k ls m = split (ltb m (k .watermark)) (λ o. simp o) (λ o. simp o)
@@ -93,8 +93,8 @@ plan-goes-on t k s (A-reading e) =
     split (too-late t (k .watermark) e)
     (λ l. simp l tt)
     (λ l. split (contains t e (k .readings))
-        (λ o. simp (l, o) tt)
-        (λ o. simp (l, o) (record { sorted = insert-sorted t e (k .readings) o s; rises = omega arith; same-dead = dead-insert t (k .watermark) e (k .readings) s l })))
+    (λ o. simp (l, o) tt)
+    (λ o. simp (l, o) (record { sorted = insert-sorted t e (k .readings) o s; rises = omega arith; same-dead = dead-insert t (k .watermark) e (k .readings) s l })))
 plan-goes-on t k s (Watermark m) =
     split (ltb m (k .watermark))
     (λ o. simp o tt)
@@ -126,8 +126,8 @@ ledger-right t k next s g =
     ap (λ (vs : List Visit). booked t vs (difference t (closed-after t (drafted t (k .watermark) next)) (closed-before t (mirror t k (ledger-of t k)))) (ledger-of t k)) (sym (gone-mirror t k next g))
     ∙ ap (λ (vs : List Visit). booked t (difference t (closed-of t k) (closed-of t next)) vs (ledger-of t k)) (sym (new-mirror t k next g))
     ∙ booked-right t (closed-of t k) (closed-of t next)
-        (apart-kept t (closed t (k .watermark)) (visits t (k .readings)) (visits-apart t (k .readings) s))
-        (apart-kept t (closed t (next .watermark)) (visits t (next .readings)) (visits-apart t (next .readings) (g .sorted)))
+    (apart-kept t (closed t (k .watermark)) (visits t (k .readings)) (visits-apart t (k .readings) s))
+    (apart-kept t (closed t (next .watermark)) (visits t (next .readings)) (visits-apart t (next .readings) (g .sorted)))
 
 -- The store that stands for a reference, with its ledger.
 abbrev pub image : Terms → Reference → Store

@@ -22,7 +22,7 @@ use Rattle.model.proofs.Order.{Apart, Follows, split}
 use Rattle.model.proofs.Expiry.{kept-alike, same-itself, same-visits}
 
 -- The order of keys.
-key-after : (t : Terms) (a b : Line) → line-before t a b ≡ false → same-key t a b ≡ false → line-before t b a ≡ true
+pub key-after : (t : Terms) (a b : Line) → line-before t a b ≡ false → same-key t a b ≡ false → line-before t b a ≡ true
 unfolding line-before same-key
 key-after t a b p q = grind (arith, tells)
 
@@ -30,7 +30,7 @@ key-past : (t : Terms) (a b : Line) → line-before t a b ≡ true → (line-bef
 unfolding line-before same-key
 key-past t a b p = (grind (arith, tells), grind (arith, tells), grind (arith, tells))
 
-key-through : (t : Terms) (a b c : Line) → line-before t a b ≡ true → line-before t b c ≡ true → line-before t a c ≡ true
+pub key-through : (t : Terms) (a b c : Line) → line-before t a b ≡ true → line-before t b c ≡ true → line-before t a c ≡ true
 unfolding line-before
 key-through t a b c p q = grind (arith, tells)
 
@@ -47,7 +47,7 @@ unfolding line-before same-key
 key-itself t a = (grind (arith, tells), grind (arith, tells))
 
 -- A share put to a line leaves its key.
-plus-before : (t : Terms) (a b c : Line) → line-before t (line-plus a b) c ≡ line-before t a c
+pub plus-before : (t : Terms) (a b c : Line) → line-before t (line-plus a b) c ≡ line-before t a c
 unfolding line-before
 plus-before t a b c = refl
 
@@ -56,7 +56,7 @@ unfolding same-key
 plus-same t a b c = refl
 
 -- Shares put to a line in either order; one line put to another of its key, either way round; a share put to a line and taken again.
-line-parts : (c d n s c′ d′ n′ s′ : ℕ) → c ≡ c′ → d ≡ d′ → n ≡ n′ → s ≡ s′
+pub line-parts : (c d n s c′ d′ n′ s′ : ℕ) → c ≡ c′ → d ≡ d′ → n ≡ n′ → s ≡ s′
     → _≡_ {A = Line} (record { card = c; day = d; visits = n; sum = s }) (record { card = c′; day = d′; visits = n′; sum = s′ })
 line-parts c d n s c′ d′ n′ s′ p q r u = cc
 
@@ -82,8 +82,8 @@ first-swap t a b xs p q =
     split (line-before t b a)
     (λ o. let k = key-past t b a o in let k0 = k .0 in let k1 = k .1 in simp (o, k0, k1, p))
     (λ o. split (same-key t b a)
-        (λ s. let k = key-back t b a s in let k1 = k .1 in let k2 = k .2 in let r = plus-round t a b s in simp (o, s, k1, k2, r))
-        (λ s. let k = key-after t b a o s in simp (o, s, k, q)))
+    (λ s. let k = key-back t b a s in let k1 = k .1 in let k2 = k .2 in let r = plus-round t a b s in simp (o, s, k1, k2, r))
+    (λ s. let k = key-after t b a o s in simp (o, s, k, q)))
 
 pub add-swap : (t : Terms) (a b : Line) (ls : List Line) → add-line t a (add-line t b ls) ≡ add-line t b (add-line t a ls)
 add-swap t a b [] = first-swap t a b [] refl refl
@@ -95,36 +95,36 @@ add-swap t a b (x ∷ xs) =
     let sb = plus-same t x a b in
     split (line-before t x a)
     (λ oa. split (line-before t x b)
-        (λ ob. simp (oa, ob, ih))
-        (λ ob. split (same-key t x b)
-            (λ kb. simp (oa, ob, kb, pa))
-            (λ kb.
-                let n = key-after t x b ob kb in
-                let l = key-through t b x a n oa in
-                simp (oa, ob, kb, l))))
+    (λ ob. simp (oa, ob, ih))
+    (λ ob. split (same-key t x b)
+    (λ kb. simp (oa, ob, kb, pa))
+    (λ kb.
+    let n = key-after t x b ob kb in
+    let l = key-through t b x a n oa in
+    simp (oa, ob, kb, l))))
     (λ oa. split (same-key t x a)
-        (λ ka. split (line-before t x b)
-            (λ ob. simp (oa, ka, ob, pb))
-            (λ ob. split (same-key t x b)
-                (λ kb. let e = plus-either x a b in simp (oa, ka, ob, kb, pa, pb, sa, sb, e))
-                (λ kb.
-                    let n = key-after t x b ob kb in
-                    let j = key-like t x a b ka in
-                    let l : line-before t b a ≡ true = sym (j .1) ∙ n in
-                    simp (oa, ka, ob, kb, pb, sb, l))))
-        (λ ka.
-            let n = key-after t x a oa ka in
-            split (line-before t x b)
-            (λ ob. let l = key-through t a x b n ob in simp (oa, ka, ob, l))
-            (λ ob. split (same-key t x b)
-                (λ kb.
-                    let j = key-like t x b a kb in
-                    let l : line-before t a b ≡ true = sym (j .1) ∙ n in
-                    simp (oa, ka, ob, kb, pa, sa, l))
-                (λ kb.
-                    let p : add-line t a (x ∷ xs) ≡ a ∷ x ∷ xs = simp (oa, ka) in
-                    let q : add-line t b (x ∷ xs) ≡ b ∷ x ∷ xs = simp (ob, kb) in
-                    ap (λ (l : List Line). add-line t a l) q ∙ first-swap t a b (x ∷ xs) p q ∙ sym (ap (λ (l : List Line). add-line t b l) p)))))
+    (λ ka. split (line-before t x b)
+    (λ ob. simp (oa, ka, ob, pb))
+    (λ ob. split (same-key t x b)
+    (λ kb. let e = plus-either x a b in simp (oa, ka, ob, kb, pa, pb, sa, sb, e))
+    (λ kb.
+    let n = key-after t x b ob kb in
+    let j = key-like t x a b ka in
+    let l : line-before t b a ≡ true = sym (j .1) ∙ n in
+    simp (oa, ka, ob, kb, pb, sb, l))))
+    (λ ka.
+    let n = key-after t x a oa ka in
+    split (line-before t x b)
+    (λ ob. let l = key-through t a x b n ob in simp (oa, ka, ob, l))
+    (λ ob. split (same-key t x b)
+    (λ kb.
+    let j = key-like t x b a kb in
+    let l : line-before t a b ≡ true = sym (j .1) ∙ n in
+    simp (oa, ka, ob, kb, pa, sa, l))
+    (λ kb.
+    let p : add-line t a (x ∷ xs) ≡ a ∷ x ∷ xs = simp (oa, ka) in
+    let q : add-line t b (x ∷ xs) ≡ b ∷ x ∷ xs = simp (ob, kb) in
+    ap (λ (l : List Line). add-line t a l) q ∙ first-swap t a b (x ∷ xs) p q ∙ sym (ap (λ (l : List Line). add-line t b l) p)))))
 
 -- Lines that all have visits.
 abbrev pub Filled : List Line → Type 0
@@ -153,15 +153,15 @@ take-undoes t a (x ∷ xs) f =
     split (line-before t x a)
     (λ o. let k = key-past t x a o .2 in simp (o, k, ih))
     (λ o. split (same-key t x a)
-        (λ k.
-            let s = plus-same t x a a in
-            let e = more-visits (x .visits) (a .visits) (f .0) in
-            let m = plus-minus x a in
-            simp (o, k, s, e, m))
-        (λ k. let i = key-itself t a .1 in let e = same-visits-count (a .visits) in simp (o, k, i, e)))
+    (λ k.
+    let s = plus-same t x a a in
+    let e = more-visits (x .visits) (a .visits) (f .0) in
+    let m = plus-minus x a in
+    simp (o, k, s, e, m))
+    (λ k. let i = key-itself t a .1 in let e = same-visits-count (a .visits) in simp (o, k, i, e)))
 
 -- The same of visits, one after the other.
-one-visit : (t : Terms) (v : Visit) → 1 ≤ line-of t v .visits
+pub one-visit : (t : Terms) (v : Visit) → 1 ≤ line-of t v .visits
 unfolding line-of
 one-visit t v = omega arith
 
@@ -229,7 +229,7 @@ follows-through : (t : Terms) (u v w : Visit) → v .from ≤ v .to → Follows 
 follows-through t u v w h f g = (omega arith, grind arith)
 
 -- What holds of all in a list holds of a visit in it.
-all-some : (t : Terms) (P : Visit → Type 0) (v : Visit) (ws : List Visit) → All P ws → some (same-visit t v) ws ≡ true → P v
+pub all-some : (t : Terms) (P : Visit → Type 0) (v : Visit) (ws : List Visit) → All P ws → some (same-visit t v) ws ≡ true → P v
 all-some t P v [] a h = absurd (let z : _≡_ {A = ℕ} 0 1 = cc h in omega arith)
 all-some t P v (w ∷ ws) a h =
     split (same-visit t v w) (λ o. subst P (sym (same-visits t v w o)) (a .0)) (λ o. all-some t P v ws (a .1) (sym (ap (λ (b : Bool). b || some (same-visit t v) ws) o) ∙ h))
@@ -247,21 +247,21 @@ shared-more t v vs p ih [] q = shared-none t (v ∷ vs)
 shared-more t v vs p ih (w ∷ ws) q =
     split (some (same-visit t v) (w ∷ ws))
     (λ i. split (same-visit t v w)
-        (λ s.
-            let e = same-visits t v w s in
-            let s′ : some (same-visit t w) (v ∷ vs) ≡ true = (let r : same-visit t w v ≡ true = same-round t w v ∙ s in simp r) in
-            let a : some (same-visit t w) vs ≡ false = subst (λ (x : Visit). some (same-visit t x) vs ≡ false) e (follows-outside t v vs (p .0) (p .1)) in
-            let b : some (same-visit t v) ws ≡ false = subst (λ (x : Visit). some (same-visit t x) ws ≡ false) (sym e) (follows-outside t w ws (q .0) (q .1)) in
-            keeps-first (λ x. some (same-visit t x) (w ∷ ws)) v vs i
-            ∙ ap (λ (l : List Visit). v ∷ l) (shared-outside t w ws vs a ∙ ih ws (q .2) ∙ sym (shared-outside t v vs ws b))
-            ∙ ap (λ (x : Visit). x ∷ shared t ws (v ∷ vs)) e
-            ∙ sym (keeps-first (λ x. some (same-visit t x) (v ∷ vs)) w ws s′))
-        (λ s.
-            let j : some (same-visit t v) ws ≡ true = sym (ap (λ (b : Bool). b || some (same-visit t v) ws) s) ∙ i in
-            let f : Follows t w v = all-some t (Follows t w) v ws (q .1) j in
-            let a : All (Follows t w) (v ∷ vs) = (f, all-weaker (Follows t v) (Follows t w) (λ x g. follows-through t w v x (p .0) f g) vs (p .1)) in
-            let o = follows-outside t w (v ∷ vs) (q .0) a in
-            shared-outside t w ws (v ∷ vs) o ∙ shared-more t v vs p ih ws (q .2) ∙ sym (drops-first (λ x. some (same-visit t x) (v ∷ vs)) w ws o)))
+    (λ s.
+    let e = same-visits t v w s in
+    let s′ : some (same-visit t w) (v ∷ vs) ≡ true = (let r : same-visit t w v ≡ true = same-round t w v ∙ s in simp r) in
+    let a : some (same-visit t w) vs ≡ false = subst (λ (x : Visit). some (same-visit t x) vs ≡ false) e (follows-outside t v vs (p .0) (p .1)) in
+    let b : some (same-visit t v) ws ≡ false = subst (λ (x : Visit). some (same-visit t x) ws ≡ false) (sym e) (follows-outside t w ws (q .0) (q .1)) in
+    keeps-first (λ x. some (same-visit t x) (w ∷ ws)) v vs i
+    ∙ ap (λ (l : List Visit). v ∷ l) (shared-outside t w ws vs a ∙ ih ws (q .2) ∙ sym (shared-outside t v vs ws b))
+    ∙ ap (λ (x : Visit). x ∷ shared t ws (v ∷ vs)) e
+    ∙ sym (keeps-first (λ x. some (same-visit t x) (v ∷ vs)) w ws s′))
+    (λ s.
+    let j : some (same-visit t v) ws ≡ true = sym (ap (λ (b : Bool). b || some (same-visit t v) ws) s) ∙ i in
+    let f : Follows t w v = all-some t (Follows t w) v ws (q .1) j in
+    let a : All (Follows t w) (v ∷ vs) = (f, all-weaker (Follows t v) (Follows t w) (λ x g. follows-through t w v x (p .0) f g) vs (p .1)) in
+    let o = follows-outside t w (v ∷ vs) (q .0) a in
+    shared-outside t w ws (v ∷ vs) o ∙ shared-more t v vs p ih ws (q .2) ∙ sym (drops-first (λ x. some (same-visit t x) (v ∷ vs)) w ws o)))
     (λ i. drops-first (λ x. some (same-visit t x) (w ∷ ws)) v vs i ∙ ih (w ∷ ws) q ∙ sym (shared-outside t v vs (w ∷ ws) i))
 
 pub shared-round : (t : Terms) (vs ws : List Visit) → Apart t vs → Apart t ws → shared t vs ws ≡ shared t ws vs

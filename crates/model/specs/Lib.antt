@@ -2,3 +2,5 @@ pub mod Sessions
 pub mod Ledger
 pub mod Reference
 pub mod Store
+pub mod Unseen
+pub mod Kept

@@ -2,3 +2,5 @@
 ghost use Rattle.model.specs.Sessions.{some};
 
 pub fn placeholder() {}
+
+mod unseen;
