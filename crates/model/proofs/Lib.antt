@@ -1,9 +1,14 @@
 pub mod Walks
 pub mod Order
 pub mod Merge
+pub mod Changes
 pub mod Same
 pub mod Cards
 pub mod Adding
 pub mod Partition
-pub mod Changes
+pub mod Expiry
+pub mod Totals
+pub mod Lines
+pub mod Mirror
+pub mod Kept
 pub mod Runs

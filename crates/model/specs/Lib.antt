@@ -2,9 +2,11 @@ pub mod Sessions
 pub mod Ledger
 pub mod Reference
 pub mod Store
-pub mod WorkedDay
-pub mod Cards
+pub mod Unseen
+pub mod Kept
 pub mod Order
+pub mod Cards
 pub mod AddsUp
 pub mod Right
 pub mod Few
+pub mod WorkedDay

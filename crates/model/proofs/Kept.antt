@@ -1,0 +1,223 @@
+-- What the store keeps: how much, and for what.
+use mathlib.Core.Path.{_≡_, refl, sym, ap, _∙_, subst}
+use mathlib.Core.Bool.{Bool, true, false, cond, not, _&&_, _||_}
+use mathlib.Core.List.{List, [], _∷_}
+use Prim.Native.Nat.{ℕ, suc, _+_, _<_, _≤_, max}
+use native.Mathlib.Omega.{arith}
+use lib.ListN.{length}
+use Rattle.std.specs.shelf.Lists.{All, kept-by}
+use Rattle.std.proofs.shelf.Elements.{all-weaker, kept-by-passes}
+use Rattle.std.proofs.shelf.Ways.{tells}
+use Rattle.visit.specs.declared.Reading.{Reading}
+use Rattle.visit.specs.declared.Terms.{Terms}
+use Rattle.visit.specs.declared.Visit.{Visit}
+use Rattle.visit.specs.Readings.{gap-of, kept, same-reading, too-late}
+use Rattle.visit.specs.Visits.{expired, grown, joins, live, merged, near, same-visit, single, visit-before}
+use Rattle.command.specs.declared.Command.{Command}
+use Rattle.command.specs.declared.Command.the-variants.{Reading as A-reading}
+use Rattle.command.specs.declared.Refusal.the-variants.{Duplicate}
+use Rattle.command.specs.Outcomes.{refused}
+use Rattle.model.specs.Kept.{Holds, May-change, Needs-all, recent}
+use Rattle.model.specs.Reference.{Reference, after, empty}
+use Rattle.model.specs.Sessions.{contains, prepend, some, visits}
+use Rattle.model.specs.Store.{Store, empty-store, kept-only, live-only, merge-in, store-after, store-outcome, store-step}
+use Rattle.model.proofs.Order.{Apart, Follows, Sorted-readings, reference-sorted, split, visits-apart}
+use Rattle.model.proofs.Expiry.{all-in-itself, same-visits, some-kept}
+use Rattle.model.proofs.Totals.{all-some, apart-kept, follows-outside}
+use Rattle.model.proofs.Mirror.{all-kept, image}
+
+-- A live visit for each recent reading at most: a visit is as live as its last reading is recent.
+single-recent : (t : Terms) (m : ℕ) (e : Reading) → live t m (single e) ≡ recent t m e
+unfolding live expired
+single-recent t m e = refl
+
+grown-live : (t : Terms) (m : ℕ) (e : Reading) (v : Visit) → live t m (grown e v) ≡ live t m v
+unfolding live expired
+grown-live t m e v = refl
+
+more-kept : {X : Type 0} (p : X → Bool) (x : X) (xs : List X) → length (kept-by p xs) ≤ length (kept-by p (x ∷ xs))
+more-kept p x xs = split (p x) (λ o. simp o (omega arith)) (λ o. simp o (omega arith))
+
+both-kept : {X Y : Type 0} (p : X → Bool) (q : Y → Bool) (x : X) (xs : List X) (y : Y) (ys : List Y) → p x ≡ q y → length (kept-by p xs) ≤ length (kept-by q ys)
+    → length (kept-by p (x ∷ xs)) ≤ length (kept-by q (y ∷ ys))
+both-kept p q x xs y ys e h = split (q y) (λ o. let j = e ∙ o in simp (o, j) (omega arith)) (λ o. let j = e ∙ o in simp (o, j) h)
+
+live-prepend : (t : Terms) (m : ℕ) (e : Reading) (vs : List Visit) (es : List Reading) → length (live-only t m vs) ≤ length (kept-by (recent t m) es)
+    → length (live-only t m (prepend t e vs)) ≤ length (kept-by (recent t m) (e ∷ es))
+live-prepend t m e [] es h = both-kept (live t m) (recent t m) (single e) [] e es (single-recent t m e) h
+live-prepend t m e (v ∷ vs) es h =
+    split (joins t e v)
+    (λ o.
+    let g = grown-live t m e v in
+    let k : length (live-only t m (grown e v ∷ vs)) ≤ length (live-only t m (v ∷ vs)) = both-kept (live t m) (live t m) (grown e v) vs v vs g (omega arith) in
+    let j = more-kept (recent t m) e es in
+    simp o (omega arith))
+    (λ o. simp o (both-kept (live t m) (recent t m) (single e) (v ∷ vs) e es (single-recent t m e) h))
+
+pub few-live : (t : Terms) (m : ℕ) (es : List Reading) → length (live-only t m (visits t es)) ≤ length (kept-by (recent t m) es)
+few-live t m [] = omega arith
+few-live t m (e ∷ es) = live-prepend t m e (visits t es) es (few-live t m es)
+
+pub image-holds : (t : Terms) (k : Reference) → Holds t (image t k) k
+image-holds t k = record { watermark = refl; live = refl; seen = refl; few = few-live t (k .watermark) (k .readings) }
+
+pub little-kept : (t : Terms) (cs : List Command) → Holds t (store-after t empty-store cs) (after t empty cs)
+little-kept t cs = subst (λ (s : Store). Holds t s (after t empty cs)) (sym (all-kept t cs)) (image-holds t (after t empty cs))
+
+-- A kept reading that comes again is refused.
+same-reading-itself : (t : Terms) (e : Reading) → same-reading t e e ≡ true
+unfolding same-reading
+same-reading-itself t e = grind (arith, tells)
+
+kept-timely : (t : Terms) (m : ℕ) (e : Reading) → kept t m e ≡ true → too-late t m e ≡ false
+unfolding kept too-late
+kept-timely t m e h = grind (arith, tells)
+
+contains-later : (t : Terms) (y : Reading) (xs : List Reading) (x : Reading) → contains t x xs ≡ true → contains t x (y ∷ xs) ≡ true
+contains-later t y xs x h = split (same-reading t x y) (λ o. simp o) (λ o. simp (o, h))
+
+kept-again : (t : Terms) (m : ℕ) (es : List Reading) → All (λ e. (too-late t m e ≡ false) × (contains t e (kept-only t m es) ≡ true)) (kept-only t m es)
+kept-again t m [] = tt
+kept-again t m (e ∷ es) =
+    let ih = kept-again t m es in
+    split (kept t m e)
+    (λ o.
+    let s = same-reading-itself t e in
+    simp o (
+      (kept-timely t m e o, simp s),
+      all-weaker (λ x. (too-late t m x ≡ false) × (contains t x (kept-only t m es) ≡ true)) (λ x. (too-late t m x ≡ false) × (contains t x (e ∷ kept-only t m es) ≡ true))
+          (λ x h. (h .0, contains-later t e (kept-only t m es) x (h .1))) (kept-only t m es) ih,
+    ))
+    (λ o. simp o ih)
+
+refused-again : (t : Terms) (s : Store) (e : Reading) → (too-late t (s .watermark) e ≡ false) × (contains t e (s .seen) ≡ true) → store-outcome t s (A-reading e) ≡ refused (Duplicate (e .time))
+refused-again t s e h = let a = h .0 in let b = h .1 in simp (a, b)
+
+-- A visit that is near to one that is merged in is there no more: what is made has more readings.
+outgrown : (t : Terms) (v u : Visit) → v .count < u .count → same-visit t v u ≡ false
+unfolding same-visit
+outgrown t v u h = grind (arith, tells)
+
+outgrown-merge : (t : Terms) (v u : Visit) (ws : List Visit) → v .count < u .count → some (same-visit t v) ws ≡ false → some (same-visit t v) (merge-in t u ws) ≡ false
+outgrown-merge t v u [] h n = let q = outgrown t v u h in simp q
+outgrown-merge t v u (w ∷ ws) h n =
+    let q = outgrown t v u h in
+    split (same-visit t v w)
+    (λ s. absurd (let z : some (same-visit t v) (w ∷ ws) ≡ true = simp s in let y : _≡_ {A = ℕ} 0 1 = cc (z, n) in omega arith))
+    (λ s.
+    let n′ : some (same-visit t v) ws ≡ false = sym (ap (λ (b : Bool). b || some (same-visit t v) ws) s) ∙ n in
+    split (near t u w)
+    (λ o. let k : v .count < merged u w .count = omega arith in let ih = outgrown-merge t v (merged u w) ws k n′ in simp (o, ih))
+    (λ o. split (visit-before t w u)
+    (λ b. let ih = outgrown-merge t v u ws h n′ in simp (o, b, s, ih))
+    (λ b. simp (o, b, q, s, n′))))
+
+wider-near : (t : Terms) (u w v : Visit) → near t u w ≡ true → near t u v ≡ true → near t (merged u w) v ≡ true
+unfolding near
+wider-near t u w v a b = grind (arith, tells)
+
+near-stop : (t : Terms) (u w v : Visit) → w .from ≤ w .to → near t u w ≡ false → visit-before t w u ≡ false → Follows t w v → near t u v ≡ false
+unfolding near visit-before gap-of
+near-stop t u w v h n b f = grind (arith, tells)
+
+pub near-merge : (t : Terms) (v u : Visit) (ws : List Visit) → Apart t ws → 1 ≤ u .count → near t u v ≡ true → some (same-visit t v) ws ≡ true
+    → some (same-visit t v) (merge-in t u ws) ≡ false
+near-merge t v u [] p h n i = absurd (let z : _≡_ {A = ℕ} 0 1 = cc i in omega arith)
+near-merge t v u (w ∷ ws) p h n i =
+    split (same-visit t v w)
+    (λ s.
+    let e = same-visits t v w s in
+    let n′ : near t u w ≡ true = subst (λ (x : Visit). near t u x ≡ true) e n in
+    let c : v .count ≡ w .count = ap (λ (x : Visit). x .count) e in
+    let k : v .count < merged u w .count = omega arith in
+    let o : some (same-visit t v) ws ≡ false = subst (λ (x : Visit). some (same-visit t x) ws ≡ false) (sym e) (follows-outside t w ws (p .0) (p .1)) in
+    let q = outgrown-merge t v (merged u w) ws k o in
+    simp (n′, q))
+    (λ s.
+    let j : some (same-visit t v) ws ≡ true = sym (ap (λ (b : Bool). b || some (same-visit t v) ws) s) ∙ i in
+    split (near t u w)
+    (λ o.
+    let k : 1 ≤ merged u w .count = omega arith in
+    let ih = near-merge t v (merged u w) ws (p .2) k (wider-near t u w v o n) j in
+    simp (o, ih))
+    (λ o. split (visit-before t w u)
+    (λ b. let ih = near-merge t v u ws (p .2) h n j in simp (o, b, s, ih))
+    (λ b. absurd (let f = near-stop t u w v (p .0) o b (all-some t (Follows t w) v ws (p .1) j) in let z : _≡_ {A = ℕ} 0 1 = cc (f, n) in omega arith))))
+
+-- A reading of a serial that none has.
+abbrev pub past-serials : List Reading → ℕ
+past-serials [] = 0
+past-serials (x ∷ xs) = max (suc (x .serial)) (past-serials xs)
+
+other-serial : (t : Terms) (e x : Reading) → x .serial < e .serial → same-reading t e x ≡ false
+unfolding same-reading
+other-serial t e x h = grind (arith, tells)
+
+pub fresh-serial : (t : Terms) (e : Reading) (xs : List Reading) → past-serials xs ≤ e .serial → contains t e xs ≡ false
+fresh-serial t e [] h = refl
+fresh-serial t e (x ∷ xs) h =
+    let q = other-serial t e x (omega arith) in
+    let ih = fresh-serial t e xs (omega arith) in
+    simp (q, ih)
+
+-- The reading at the end of a visit's reach is not too late while the visit is live, and near to it.
+abbrev reaching : Terms → Visit → ℕ → Reading
+reaching t v n = record { card = v .card; time = v .to + gap-of t (v .card); serial = n; amount = 0 }
+
+reaching-timely : (t : Terms) (m : ℕ) (v : Visit) (n : ℕ) → live t m v ≡ true → too-late t m (reaching t v n) ≡ false
+unfolding live expired too-late
+reaching-timely t m v n h = grind (arith, tells)
+
+reaching-near : (t : Terms) (v : Visit) (n : ℕ) → v .from ≤ v .to → near t (single (reaching t v n)) v ≡ true
+unfolding near
+reaching-near t v n h = grind (arith, tells)
+
+reading-live : (t : Terms) (s : Store) (e : Reading) → too-late t (s .watermark) e ≡ false → contains t e (s .seen) ≡ false
+    → store-step t s (A-reading e) .live ≡ live-only t (s .watermark) (merge-in t (single e) (s .live))
+reading-live t s e a b = simp (a, b)
+
+and-no : (b : Bool) → (b && false) ≡ false
+and-no true = refl
+and-no false = refl
+
+may-change : (t : Terms) (s : Store) → Apart t (s .live) → (v : Visit) → (v .from ≤ v .to) × (live t (s .watermark) v ≡ true) × (some (same-visit t v) (s .live) ≡ true) → May-change t s v
+may-change t s p v h =
+    let e = reaching t v (past-serials (s .seen)) in
+    let a = reaching-timely t (s .watermark) v (past-serials (s .seen)) (h .1) in
+    let b : contains t e (s .seen) ≡ false = fresh-serial t e (s .seen) (omega arith) in
+    let n = reaching-near t v (past-serials (s .seen)) (h .0) in
+    let g = near-merge t v (single e) (s .live) p (omega arith) n (h .2) in (
+      e,
+      a,
+      b,
+      ap (λ (vs : List Visit). some (same-visit t v) vs) (reading-live t s e a b)
+          ∙ some-kept t (live t (s .watermark)) v (merge-in t (single e) (s .live))
+          ∙ ap (λ (x : Bool). live t (s .watermark) v && x) g
+          ∙ and-no (live t (s .watermark) v),
+    )
+
+all-both : {X : Type 0} (P Q R : X → Type 0) (xs : List X) → All P xs → All Q xs → All R xs → All (λ x. P x × Q x × R x) xs
+all-both P Q R [] a b c = tt
+all-both P Q R (x ∷ xs) a b c = ((a .0, b .0, c .0), all-both P Q R xs (a .1) (b .1) (c .1))
+
+apart-order : (t : Terms) (vs : List Visit) → Apart t vs → All (λ v. v .from ≤ v .to) vs
+apart-order t [] p = tt
+apart-order t (v ∷ vs) p = (p .0, apart-order t vs (p .2))
+
+pub image-needs : (t : Terms) (k : Reference) → Sorted-readings t (k .readings) → Needs-all t (image t k)
+image-needs t k s =
+    let vs : List Visit = live-only t (k .watermark) (visits t (k .readings)) in
+    let p : Apart t vs = apart-kept t (live t (k .watermark)) (visits t (k .readings)) (visits-apart t (k .readings) s) in
+    record {
+      readings =
+          all-weaker (λ e. (too-late t (k .watermark) e ≡ false) × (contains t e (kept-only t (k .watermark) (k .readings)) ≡ true))
+          (λ e. store-outcome t (image t k) (A-reading e) ≡ refused (Duplicate (e .time)))
+          (refused-again t (image t k)) (kept-only t (k .watermark) (k .readings)) (kept-again t (k .watermark) (k .readings));
+      visits =
+          all-weaker (λ v. (v .from ≤ v .to) × (live t (k .watermark) v ≡ true) × (some (same-visit t v) vs ≡ true)) (May-change t (image t k)) (may-change t (image t k) p) vs
+          (all-both (λ v. v .from ≤ v .to) (λ v. live t (k .watermark) v ≡ true) (λ v. some (same-visit t v) vs ≡ true) vs
+          (apart-order t vs p) (kept-by-passes (live t (k .watermark)) (visits t (k .readings))) (all-in-itself t vs));
+    }
+
+pub nothing-in-vain : (t : Terms) (cs : List Command) → Needs-all t (store-after t empty-store cs)
+nothing-in-vain t cs = subst (λ (s : Store). Needs-all t s) (sym (all-kept t cs)) (image-needs t (after t empty cs) (reference-sorted t cs))
