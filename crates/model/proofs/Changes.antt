@@ -44,10 +44,10 @@ same-itself : (t : Terms) (v : Visit) → same-visit t v v ≡ true
 unfolding same-visit
 same-itself t v = grind (arith, tells)
 
-abbrev In : Terms → List Visit → Visit → Type 0
+abbrev pub In : Terms → List Visit → Visit → Type 0
 In t ws v = some (same-visit t v) ws ≡ true
 
-abbrev Absent : Terms → List Visit → Visit → Type 0
+abbrev pub Absent : Terms → List Visit → Visit → Type 0
 Absent t ws v = some (same-visit t v) ws ≡ false
 
 all-in : (t : Terms) (vs : List Visit) → All (In t vs) vs
@@ -133,19 +133,21 @@ closed-parts t m ps ms ss = kept-by-append (closed t m) ps (ms ++ ss) ∙ ap (λ
 never : _≡_ {A = ℕ} 0 1 → ⊥
 never h = omega arith
 
+closed-absent : (t : Terms) (m : ℕ) (ps zs ss : List Visit) (v : Visit) → Absent t ps v → Absent t zs v → Absent t ss v
+    → Absent t (closed-visits t m ps ++ (closed-visits t m zs ++ closed-visits t m ss)) v
+closed-absent t m ps zs ss v p z s =
+    let out = some-kept (same-visit t v) (closed t m) in
+    absent-append t (closed-visits t m ps) (closed-visits t m zs ++ closed-visits t m ss) v (out ps p) (absent-append t (closed-visits t m zs) (closed-visits t m ss) v (out zs z) (out ss s))
+
 -- Visits replaced in the middle: of the closed ones, just those of the middle are missed.
 replaced : (t : Terms) (m : ℕ) (ps ms zs ss : List Visit) → Apart t (ps ++ (ms ++ ss)) → All (Absent t zs) ms
     → difference t (closed-visits t m (ps ++ (ms ++ ss))) (closed-visits t m (ps ++ (zs ++ ss))) ≡ closed-visits t m ms
 replaced t m ps ms zs ss p a =
-    let away : All (Absent t (closed-visits t m ps ++ (closed-visits t m zs ++ closed-visits t m ss))) ms =
-        all-weaker (λ v. (Absent t ps v × Absent t ss v) × Absent t zs v) (Absent t (closed-visits t m ps ++ (closed-visits t m zs ++ closed-visits t m ss)))
-        (λ v h. absent-append t (closed-visits t m ps) (closed-visits t m zs ++ closed-visits t m ss) v (some-kept (same-visit t v) (closed t m) ps (h .0 .0))
-            (absent-append t (closed-visits t m zs) (closed-visits t m ss) v (some-kept (same-visit t v) (closed t m) zs (h .1)) (some-kept (same-visit t v) (closed t m) ss (h .0 .1))))
-        ms (all-both (λ v. Absent t ps v × Absent t ss v) (Absent t zs) ms (absent-others t ps ms ss p) a) in
-    ap (λ (l : List Visit). difference t l (closed-visits t m (ps ++ (zs ++ ss)))) (closed-parts t m ps ms ss)
-    ∙ (ap (λ (l : List Visit). difference t (closed-visits t m ps ++ (closed-visits t m ms ++ closed-visits t m ss)) l) (closed-parts t m ps zs ss)
-    ∙ difference-middle t (closed-visits t m ps) (closed-visits t m ms) (closed-visits t m zs) (closed-visits t m ss)
-        (all-kept-by (closed t m) (Absent t (closed-visits t m ps ++ (closed-visits t m zs ++ closed-visits t m ss))) ms away))
+    let c : List Visit → List Visit = closed-visits t m in
+    let away = all-both (λ v. Absent t ps v × Absent t ss v) (Absent t zs) ms (absent-others t ps ms ss p) a in
+    let none : All (Absent t (c ps ++ (c zs ++ c ss))) ms = all-weaker _ (Absent t (c ps ++ (c zs ++ c ss))) (λ v h. closed-absent t m ps zs ss v (h .0 .0) (h .1) (h .0 .1)) ms away in
+    simp (closed-parts t m ps ms ss, closed-parts t m ps zs ss)
+    (difference-middle t (c ps) (c ms) (c zs) (c ss) (all-kept-by (closed t m) (Absent t (c ps ++ (c zs ++ c ss))) ms none))
 
 changes-replaced : (t : Terms) (m : ℕ) (vs ws ps ms zs ss : List Visit) → vs ≡ ps ++ (ms ++ ss) → ws ≡ ps ++ (zs ++ ss) → Apart t vs → Apart t ws
     → All (Absent t zs) ms → All (Absent t ms) zs → changes t (closed-visits t m vs) (closed-visits t m ws) ≡ changed (closed-visits t m ms) (closed-visits t m zs)

@@ -1,17 +1,18 @@
 -- A visit merged into visits that are in order and apart.
 use mathlib.Core.Path.{_≡_, refl, sym, ap, _∙_}
-use mathlib.Core.Bool.{Bool, true, false, cond, not, _&&_, _||_}
+use mathlib.Core.Bool.{Bool, true, false, cond}
 use mathlib.Core.List.{List, [], _∷_, _++_}
 use Prim.Native.Nat.{ℕ, _+_, _<_, _≤_, min, max}
 use native.Mathlib.Omega.{arith}
 use lib.ListN.{length}
 use Rattle.std.specs.shelf.Lists.{All, kept-by}
 use Rattle.std.proofs.shelf.Elements.{all-weaker}
+use Rattle.std.proofs.shelf.Tests.{cond-false, cond-true}
 use Rattle.std.proofs.shelf.Ways.{tells}
 use Rattle.visit.specs.declared.Reading.{Reading}
 use Rattle.visit.specs.declared.Terms.{Terms}
 use Rattle.visit.specs.declared.Visit.{Visit}
-use Rattle.visit.specs.Readings.{gap-of, reading-before}
+use Rattle.visit.specs.Readings.{reading-before}
 use Rattle.visit.specs.Visits.{grown, joins, merged, near, single, visit-before}
 use Rattle.model.specs.Sessions.{insert-reading, prepend, visits}
 use Rattle.model.specs.Few.{merged-with, near-ones}
@@ -79,10 +80,6 @@ joins-merged-right : (t : Terms) (x : Reading) (w v : Visit) → joins t x v ≡
 unfolding near joins
 joins-merged-right t x w v o n = grind (arith, tells)
 
-merged-not-after : (t : Terms) (x : Reading) (w v : Visit) → Not-after x w → Not-after x v → near t w v ≡ true → Not-after x (merged w v)
-unfolding near
-merged-not-after t x w v l k n = (l .0, grind (arith, tells))
-
 -- a visit that is passed is too far in front for any reading that joins
 grown-unpassed : (t : Terms) (x : Reading) (w v : Visit) → joins t x w ≡ true → Not-after x v → v .from ≤ v .to → w .from ≤ w .to → near t w v ≡ false → visit-before t v w ≡ false
 unfolding near joins visit-before
@@ -146,10 +143,6 @@ follows-unjoined : (t : Terms) (x : Reading) (v : Visit) → Not-after x v → v
 unfolding joins
 follows-unjoined t x v l h w f = grind (arith, tells)
 
-passed-far : (t : Terms) (x : Reading) (u v : Visit) → Not-after x v → v .from ≤ v .to → u .from ≤ u .to → near t u v ≡ false → visit-before t v u ≡ true → joins t x u ≡ false
-unfolding joins near visit-before
-passed-far t x u v l h k n b = grind (arith, tells)
-
 passed-grown-far : (t : Terms) (x : Reading) (u v : Visit) → v .from ≤ v .to → u .from ≤ u .to → near t u v ≡ false → visit-before t v u ≡ true → near t u (grown x v) ≡ false
 unfolding near visit-before
 passed-grown-far t x u v h k n b = grind (arith, tells)
@@ -158,37 +151,42 @@ passed-grown : (t : Terms) (x : Reading) (u v : Visit) → Not-after x v → joi
 unfolding joins visit-before
 passed-grown t x u v l o b = grind (arith, tells)
 
-stop-far : (t : Terms) (x : Reading) (u v : Visit) → Not-after x u → u .from ≤ u .to → v .from ≤ v .to → near t u v ≡ false → visit-before t v u ≡ false → joins t x v ≡ false
+joined-passed : (t : Terms) (x : Reading) (u v : Visit) → Not-after x u → u .from ≤ u .to → v .from ≤ v .to → joins t x v ≡ true → near t u v ≡ false → visit-before t v u ≡ true
 unfolding joins near visit-before
-stop-far t x u v l h k n b = grind (arith, tells)
+joined-passed t x u v l h k o n = grind (arith, tells)
+
+front-joined : (t : Terms) (x : Reading) (u v : Visit) (vs : List Visit) → Not-after x u → u .from ≤ u .to → All (Not-after x) (v ∷ vs) → Apart t (v ∷ vs) → joins t x v ≡ true
+    → prepend t x (merge-in t u (v ∷ vs)) ≡ merge-in t u (grown x v ∷ vs)
+front-joined t x u v vs l h a p o =
+    split (near t u v)
+    (λ n. simp (n, near-grown t x u v l h o n, merged-grown t x u v l o n)
+    (joins-through t x (merged u v) vs (joins-merged-right t x u v o n) (merged-order u v h) (a .1) (p .2)))
+    (λ n. let b = joined-passed t x u v l h (p .0) o n in simp (n, b, o, passed-grown-far t x u v (p .0) h n b, passed-grown t x u v (a .0) o b))
+
+-- A reading that does not join the first visit joins none of them.
+front-far : (t : Terms) (x : Reading) (u v : Visit) (vs : List Visit) → u .from ≤ u .to → All (Not-after x) (v ∷ vs) → Apart t (v ∷ vs) → joins t x v ≡ false
+    → prepend t x (merge-in t u (v ∷ vs)) ≡ cond (joins t x u) (merge-in t (grown x u) (v ∷ vs)) (single x ∷ merge-in t u (v ∷ vs))
+front-far t x u v vs h a p o =
+    let far = all-weaker (Follows t v) (λ w. joins t x w ≡ false) (follows-unjoined t x v (a .0) (p .0)) vs (p .1) in
+    split (joins t x u)
+    (λ j. joins-through t x u (v ∷ vs) j h a p ∙ sym (cond-true (joins t x u) (merge-in t (grown x u) (v ∷ vs)) (single x ∷ merge-in t u (v ∷ vs)) j))
+    (λ j. far-through t x u (v ∷ vs) j (o, far) ∙ sym (cond-false (joins t x u) (merge-in t (grown x u) (v ∷ vs)) (single x ∷ merge-in t u (v ∷ vs)) j))
+
+single-first : (t : Terms) (x : Reading) (u : Visit) (vs : List Visit) → Not-after x u → u .from ≤ u .to
+    → merge-in t u (single x ∷ vs) ≡ cond (joins t x u) (merge-in t (grown x u) vs) (single x ∷ merge-in t u vs)
+single-first t x u vs l h =
+    split (joins t x u)
+    (λ o. simp (near-joins t x u l h, merged-single t x u l h o, o))
+    (λ o. simp (near-joins t x u l h, far-before t x u l o, o))
 
 -- A reading in front of all may be put there before or after the merging.
 pub front-merge : (t : Terms) (x : Reading) (u : Visit) (vs : List Visit) → Not-after x u → u .from ≤ u .to → All (Not-after x) vs → Apart t vs
     → prepend t x (merge-in t u vs) ≡ merge-in t u (prepend t x vs)
-front-merge t x u [] l h a p =
-    split (joins t x u)
-    (λ o. simp (near-joins t x u l h, merged-single t x u l h o, o))
-    (λ o. simp (near-joins t x u l h, far-before t x u l o, o))
+front-merge t x u [] l h a p = sym (single-first t x u [] l h)
 front-merge t x u (v ∷ vs) l h a p =
-    split (near t u v)
-    (λ n. split (joins t x v)
-        (λ o. simp (n, o, near-grown t x u v l h o n, merged-grown t x u v l o n)
-            (joins-through t x (merged u v) vs (joins-merged-right t x u v o n) (merged-order u v h) (a .1) (p .2)))
-        (λ o. split (joins t x u)
-            (λ j. simp (n, o, near-joins t x u l h, j, ap (λ (w : Visit). near t w v) (merged-single t x u l h j) ∙ grown-near t x u v j (a .0) (p .0) n)
-                (joins-through t x (merged u v) vs (joins-merged t x u v j n) (merged-order u v h) (a .1) (p .2)
-                ∙ ap (λ (w : Visit). merge-in t w vs) (sym (ap (λ (w : Visit). merged w v) (merged-single t x u l h j) ∙ grown-merged t x u v j n (a .0)))))
-            (λ j. simp (n, o, near-joins t x u l h, j, far-before t x u l j)
-                (far-through t x (merged u v) vs (far-merged t x u v j o n)
-                    (all-weaker (Follows t v) (λ w. joins t x w ≡ false) (follows-unjoined t x v (a .0) (p .0)) vs (p .1))))))
-    (λ n. split (visit-before t v u)
-        (λ b. split (joins t x v)
-            (λ o. simp (n, b, o, passed-grown-far t x u v (p .0) h n b, passed-grown t x u v (a .0) o b))
-            (λ o. let j = passed-far t x u v (a .0) (p .0) h n b in simp (n, b, o, near-joins t x u l h, j, far-before t x u l j)))
-        (λ b. let o = stop-far t x u v l h (p .0) n b in
-            split (joins t x u)
-            (λ j. simp (n, b, o, near-joins t x u l h, j, merged-single t x u l h j, grown-far t x u v j (a .0) (p .0) h n, grown-stops t x u v j (a .0)))
-            (λ j. simp (n, b, o, near-joins t x u l h, j, far-before t x u l j))))
+    split (joins t x v)
+    (λ o. simp o (front-joined t x u v vs l h a p o))
+    (λ o. simp o (front-far t x u v vs h a p o ∙ sym (single-first t x u (v ∷ vs) l h)))
 
 -- A reading in front of all is merged as it is put there.
 prepend-merges : (t : Terms) (e : Reading) (vs : List Visit) → All (Not-after e) vs → Apart t vs → prepend t e vs ≡ merge-in t (single e) vs
