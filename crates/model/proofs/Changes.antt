@@ -85,7 +85,7 @@ difference-middle t ps ms zs ss a =
     let whole : List Visit = ps ++ (zs ++ ss) in
     let p : difference t ps whole ≡ [] = difference-none t ps whole (all-weaker (In t ps) (In t whole) (in-left t ps (zs ++ ss)) ps (all-in t ps)) in
     let s : difference t ss whole ≡ [] =
-        difference-none t ss whole (all-weaker (In t ss) (In t whole) (λ v h. in-right t ps (zs ++ ss) v (in-right t zs ss v h)) ss (all-in t ss)) in
+    difference-none t ss whole (all-weaker (In t ss) (In t whole) (λ v h. in-right t ps (zs ++ ss) v (in-right t zs ss v h)) ss (all-in t ss)) in
     let m : difference t ms whole ≡ ms = difference-all t ms whole a in
     difference-append t ps (ms ++ ss) whole
     ∙ (ap (λ (l : List Visit). l ++ difference t (ms ++ ss) whole) p
@@ -151,9 +151,9 @@ changes-replaced : (t : Terms) (m : ℕ) (vs ws ps ms zs ss : List Visit) → vs
     → All (Absent t zs) ms → All (Absent t ms) zs → changes t (closed-visits t m vs) (closed-visits t m ws) ≡ changed (closed-visits t m ms) (closed-visits t m zs)
 changes-replaced t m vs ws ps ms zs ss p q h k a b =
     let gone : difference t (closed-visits t m vs) (closed-visits t m ws) ≡ closed-visits t m ms =
-        rw (p, q) (replaced t m ps ms zs ss (subst (Apart t) p h) a) in
+    rw (p, q) (replaced t m ps ms zs ss (subst (Apart t) p h) a) in
     let new : difference t (closed-visits t m ws) (closed-visits t m vs) ≡ closed-visits t m zs =
-        rw (p, q) (replaced t m ps zs ms ss (subst (Apart t) q k) b) in
+    rw (p, q) (replaced t m ps zs ms ss (subst (Apart t) q k) b) in
     cc (gone, new)
 
 -- A visit made of others has more readings than each, and ends no earlier than the first.
@@ -199,8 +199,8 @@ taken-in t k e gone new h =
     split (too-late t (k .watermark) e)
     (λ o. let r : refused (TooLate (e .time)) ≡ changed gone new = simp o at h in cc)
     (λ o. split (contains t e (k .readings))
-        (λ q. let r : refused (Duplicate (e .time)) ≡ changed gone new = simp (o, q) at h in cc)
-        (λ q. simp (o, q) at h))
+    (λ q. let r : refused (Duplicate (e .time)) ≡ changed gone new = simp (o, q) at h in cc)
+    (λ q. simp (o, q) at h))
 
 pub only-what-is-met : Only-what-is-met
 only-what-is-met t cs e gone new h =

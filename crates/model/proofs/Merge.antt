@@ -110,7 +110,7 @@ joins-through t x w [] o h a p = simp o
 joins-through t x w (v ∷ vs) o h a p =
     split (near t w v)
     (λ n. simp (n, grown-near t x w v o (a .0) (p .0) n, grown-merged t x w v o n (a .0))
-        (joins-through t x (merged w v) vs (joins-merged t x w v o n) (merged-order w v h) (a .1) (p .2)))
+    (joins-through t x (merged w v) vs (joins-merged t x w v o n) (merged-order w v h) (a .1) (p .2)))
     (λ n. simp (n, grown-unpassed t x w v o (a .0) (p .0) h n, grown-far t x w v o (a .0) (p .0) h n, grown-stops t x w v o (a .0), o))
 
 -- A reading that is far from the visit that is merged and from all others.
@@ -194,7 +194,7 @@ prepend-merges t e [] a p = refl
 prepend-merges t e (v ∷ vs) a p =
     split (joins t e v)
     (λ o. simp (single-near t e v (a .0) (p .0), o, single-merged t e v (a .0) (p .0) o)
-        (sym (merge-apart t (grown e v) vs (joined-time t e v (a .0) (p .0) o .2) (p .1) (p .2))))
+    (sym (merge-apart t (grown e v) vs (joined-time t e v (a .0) (p .0) o .2) (p .1) (p .2))))
     (λ o. simp (single-near t e v (a .0) (p .0), o, not-before t e v (a .0)))
 
 unpassed-all-readings : (t : Terms) (e x : Reading) (xs : List Reading) → reading-before t x e ≡ false → Sorted-readings t (x ∷ xs) → All (λ y. Not-after e (single y)) (x ∷ xs)
@@ -218,8 +218,8 @@ all-merge t P both u (v ∷ vs) h a =
     split (near t u v)
     (λ n. simp n (all-merge t P both (merged u v) vs (both u v n h (a .0)) (a .1)))
     (λ n. split (visit-before t v u)
-        (λ b. simp (n, b) (a .0, all-merge t P both u vs h (a .1)))
-        (λ b. simp (n, b) (h, a)))
+    (λ b. simp (n, b) (a .0, all-merge t P both u vs h (a .1)))
+    (λ b. simp (n, b) (h, a)))
 
 follows-merged : (t : Terms) (v a b : Visit) → near t a b ≡ true → Follows t v a → Follows t v b → Follows t v (merged a b)
 unfolding near
@@ -245,9 +245,9 @@ merge-keeps-apart t u (v ∷ vs) h p =
     split (near t u v)
     (λ n. simp n (merge-keeps-apart t (merged u v) vs (merged-order u v h) (p .2)))
     (λ n. split (visit-before t v u)
-        (λ b. simp (n, b)
-            (p .0, all-merge t (Follows t v) (follows-merged t v) u vs (passed-follows t u v (p .0) h n b) (p .1), merge-keeps-apart t u vs h (p .2)))
-        (λ b. simp (n, b) (let f = stopped-follows t u v (p .0) h n b in (h, (f, all-follow t u v vs f (p .0) (p .1)), p))))
+    (λ b. simp (n, b)
+    (p .0, all-merge t (Follows t v) (follows-merged t v) u vs (passed-follows t u v (p .0) h n b) (p .1), merge-keeps-apart t u vs h (p .2)))
+    (λ b. simp (n, b) (let f = stopped-follows t u v (p .0) h n b in (h, (f, all-follow t u v vs f (p .0) (p .1)), p))))
 
 -- The visits that are taken in are those near to the first, at every stage.
 near-same : (t : Terms) (u v : Visit) → u .from ≤ u .to → near t u v ≡ true → v .from ≤ v .to → (w : Visit) → Follows t v w × (w .from ≤ w .to) → near t (merged u v) w ≡ near t u w
