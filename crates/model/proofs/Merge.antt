@@ -67,7 +67,7 @@ merge-apart t u [] h a p = refl
 merge-apart t u (v ∷ vs) h a p = let q = follows-far t u v h (p .0) (a .0) in simp (q .0, q .1)
 
 -- A reading that joins the visit that is merged.
--- near stays near at a longer front
+-- what is near stays near to a visit with a longer front
 grown-near : (t : Terms) (x : Reading) (w v : Visit) → joins t x w ≡ true → Not-after x v → v .from ≤ v .to → near t w v ≡ true → near t (grown x w) v ≡ true
 unfolding near joins
 grown-near t x w v o l h n = grind (arith, tells)
@@ -126,7 +126,7 @@ far-through t x w (v ∷ vs) o a =
     (λ n. simp n (far-through t x (merged w v) vs (far-merged t x w v o (a .0) n) (a .1)))
     (λ n. split (visit-before t v w) (λ b. simp (n, b, a .0)) (λ b. simp (n, b, o)))
 
--- A reading that joins the visit that is reached, or none.
+-- A reading that joins the first of the visits into which one is merged.
 near-grown : (t : Terms) (x : Reading) (u v : Visit) → Not-after x u → u .from ≤ u .to → joins t x v ≡ true → near t u v ≡ true → near t u (grown x v) ≡ true
 unfolding near joins
 near-grown t x u v l h o n = grind (arith, tells)
