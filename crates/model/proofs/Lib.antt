@@ -1,6 +1,7 @@
 pub mod Walks
 pub mod Order
 pub mod Merge
+pub mod Changes
 pub mod Expiry
 pub mod Totals
 pub mod Lines

@@ -1,18 +1,21 @@
 -- A visit merged into visits that are in order and apart.
 use mathlib.Core.Path.{_≡_, refl, sym, ap, _∙_}
-use mathlib.Core.Bool.{Bool, true, false, cond, not, _&&_, _||_}
+use mathlib.Core.Bool.{Bool, true, false, cond}
 use mathlib.Core.List.{List, [], _∷_, _++_}
 use Prim.Native.Nat.{ℕ, _+_, _<_, _≤_, min, max}
 use native.Mathlib.Omega.{arith}
-use Rattle.std.specs.shelf.Lists.{All}
+use lib.ListN.{length}
+use Rattle.std.specs.shelf.Lists.{All, kept-by}
 use Rattle.std.proofs.shelf.Elements.{all-weaker}
+use Rattle.std.proofs.shelf.Tests.{cond-false, cond-true}
 use Rattle.std.proofs.shelf.Ways.{tells}
 use Rattle.visit.specs.declared.Reading.{Reading}
 use Rattle.visit.specs.declared.Terms.{Terms}
 use Rattle.visit.specs.declared.Visit.{Visit}
-use Rattle.visit.specs.Readings.{gap-of, reading-before}
+use Rattle.visit.specs.Readings.{reading-before}
 use Rattle.visit.specs.Visits.{grown, joins, merged, near, single, visit-before}
 use Rattle.model.specs.Sessions.{insert-reading, prepend, visits}
+use Rattle.model.specs.Few.{merged-with, near-ones}
 use Rattle.model.specs.Store.{merge-in}
 use Rattle.model.proofs.Order.{Apart, Follows, Not-after, Sorted-readings, sorted-not-after, split, unpassed-not-after, before-not-after, unpassed-next, visits-apart, visits-not-after}
 
@@ -77,10 +80,6 @@ joins-merged-right : (t : Terms) (x : Reading) (w v : Visit) → joins t x v ≡
 unfolding near joins
 joins-merged-right t x w v o n = grind (arith, tells)
 
-merged-not-after : (t : Terms) (x : Reading) (w v : Visit) → Not-after x w → Not-after x v → near t w v ≡ true → Not-after x (merged w v)
-unfolding near
-merged-not-after t x w v l k n = (l .0, grind (arith, tells))
-
 -- a visit that is passed is too far in front for any reading that joins
 grown-unpassed : (t : Terms) (x : Reading) (w v : Visit) → joins t x w ≡ true → Not-after x v → v .from ≤ v .to → w .from ≤ w .to → near t w v ≡ false → visit-before t v w ≡ false
 unfolding near joins visit-before
@@ -144,10 +143,6 @@ follows-unjoined : (t : Terms) (x : Reading) (v : Visit) → Not-after x v → v
 unfolding joins
 follows-unjoined t x v l h w f = grind (arith, tells)
 
-passed-far : (t : Terms) (x : Reading) (u v : Visit) → Not-after x v → v .from ≤ v .to → u .from ≤ u .to → near t u v ≡ false → visit-before t v u ≡ true → joins t x u ≡ false
-unfolding joins near visit-before
-passed-far t x u v l h k n b = grind (arith, tells)
-
 passed-grown-far : (t : Terms) (x : Reading) (u v : Visit) → v .from ≤ v .to → u .from ≤ u .to → near t u v ≡ false → visit-before t v u ≡ true → near t u (grown x v) ≡ false
 unfolding near visit-before
 passed-grown-far t x u v h k n b = grind (arith, tells)
@@ -156,37 +151,42 @@ passed-grown : (t : Terms) (x : Reading) (u v : Visit) → Not-after x v → joi
 unfolding joins visit-before
 passed-grown t x u v l o b = grind (arith, tells)
 
-stop-far : (t : Terms) (x : Reading) (u v : Visit) → Not-after x u → u .from ≤ u .to → v .from ≤ v .to → near t u v ≡ false → visit-before t v u ≡ false → joins t x v ≡ false
+joined-passed : (t : Terms) (x : Reading) (u v : Visit) → Not-after x u → u .from ≤ u .to → v .from ≤ v .to → joins t x v ≡ true → near t u v ≡ false → visit-before t v u ≡ true
 unfolding joins near visit-before
-stop-far t x u v l h k n b = grind (arith, tells)
+joined-passed t x u v l h k o n = grind (arith, tells)
+
+front-joined : (t : Terms) (x : Reading) (u v : Visit) (vs : List Visit) → Not-after x u → u .from ≤ u .to → All (Not-after x) (v ∷ vs) → Apart t (v ∷ vs) → joins t x v ≡ true
+    → prepend t x (merge-in t u (v ∷ vs)) ≡ merge-in t u (grown x v ∷ vs)
+front-joined t x u v vs l h a p o =
+    split (near t u v)
+    (λ n. simp (n, near-grown t x u v l h o n, merged-grown t x u v l o n)
+    (joins-through t x (merged u v) vs (joins-merged-right t x u v o n) (merged-order u v h) (a .1) (p .2)))
+    (λ n. let b = joined-passed t x u v l h (p .0) o n in simp (n, b, o, passed-grown-far t x u v (p .0) h n b, passed-grown t x u v (a .0) o b))
+
+-- A reading that does not join the first visit joins none of them.
+front-far : (t : Terms) (x : Reading) (u v : Visit) (vs : List Visit) → u .from ≤ u .to → All (Not-after x) (v ∷ vs) → Apart t (v ∷ vs) → joins t x v ≡ false
+    → prepend t x (merge-in t u (v ∷ vs)) ≡ cond (joins t x u) (merge-in t (grown x u) (v ∷ vs)) (single x ∷ merge-in t u (v ∷ vs))
+front-far t x u v vs h a p o =
+    let far = all-weaker (Follows t v) (λ w. joins t x w ≡ false) (follows-unjoined t x v (a .0) (p .0)) vs (p .1) in
+    split (joins t x u)
+    (λ j. joins-through t x u (v ∷ vs) j h a p ∙ sym (cond-true (joins t x u) (merge-in t (grown x u) (v ∷ vs)) (single x ∷ merge-in t u (v ∷ vs)) j))
+    (λ j. far-through t x u (v ∷ vs) j (o, far) ∙ sym (cond-false (joins t x u) (merge-in t (grown x u) (v ∷ vs)) (single x ∷ merge-in t u (v ∷ vs)) j))
+
+single-first : (t : Terms) (x : Reading) (u : Visit) (vs : List Visit) → Not-after x u → u .from ≤ u .to
+    → merge-in t u (single x ∷ vs) ≡ cond (joins t x u) (merge-in t (grown x u) vs) (single x ∷ merge-in t u vs)
+single-first t x u vs l h =
+    split (joins t x u)
+    (λ o. simp (near-joins t x u l h, merged-single t x u l h o, o))
+    (λ o. simp (near-joins t x u l h, far-before t x u l o, o))
 
 -- A reading in front of all may be put there before or after the merging.
 pub front-merge : (t : Terms) (x : Reading) (u : Visit) (vs : List Visit) → Not-after x u → u .from ≤ u .to → All (Not-after x) vs → Apart t vs
     → prepend t x (merge-in t u vs) ≡ merge-in t u (prepend t x vs)
-front-merge t x u [] l h a p =
-    split (joins t x u)
-    (λ o. simp (near-joins t x u l h, merged-single t x u l h o, o))
-    (λ o. simp (near-joins t x u l h, far-before t x u l o, o))
+front-merge t x u [] l h a p = sym (single-first t x u [] l h)
 front-merge t x u (v ∷ vs) l h a p =
-    split (near t u v)
-    (λ n. split (joins t x v)
-        (λ o. simp (n, o, near-grown t x u v l h o n, merged-grown t x u v l o n)
-            (joins-through t x (merged u v) vs (joins-merged-right t x u v o n) (merged-order u v h) (a .1) (p .2)))
-        (λ o. split (joins t x u)
-            (λ j. simp (n, o, near-joins t x u l h, j, ap (λ (w : Visit). near t w v) (merged-single t x u l h j) ∙ grown-near t x u v j (a .0) (p .0) n)
-                (joins-through t x (merged u v) vs (joins-merged t x u v j n) (merged-order u v h) (a .1) (p .2)
-                ∙ ap (λ (w : Visit). merge-in t w vs) (sym (ap (λ (w : Visit). merged w v) (merged-single t x u l h j) ∙ grown-merged t x u v j n (a .0)))))
-            (λ j. simp (n, o, near-joins t x u l h, j, far-before t x u l j)
-                (far-through t x (merged u v) vs (far-merged t x u v j o n)
-                    (all-weaker (Follows t v) (λ w. joins t x w ≡ false) (follows-unjoined t x v (a .0) (p .0)) vs (p .1))))))
-    (λ n. split (visit-before t v u)
-        (λ b. split (joins t x v)
-            (λ o. simp (n, b, o, passed-grown-far t x u v (p .0) h n b, passed-grown t x u v (a .0) o b))
-            (λ o. let j = passed-far t x u v (a .0) (p .0) h n b in simp (n, b, o, near-joins t x u l h, j, far-before t x u l j)))
-        (λ b. let o = stop-far t x u v l h (p .0) n b in
-            split (joins t x u)
-            (λ j. simp (n, b, o, near-joins t x u l h, j, merged-single t x u l h j, grown-far t x u v j (a .0) (p .0) h n, grown-stops t x u v j (a .0)))
-            (λ j. simp (n, b, o, near-joins t x u l h, j, far-before t x u l j))))
+    split (joins t x v)
+    (λ o. simp o (front-joined t x u v vs l h a p o))
+    (λ o. simp o (front-far t x u v vs h a p o ∙ sym (single-first t x u (v ∷ vs) l h)))
 
 -- A reading in front of all is merged as it is put there.
 prepend-merges : (t : Terms) (e : Reading) (vs : List Visit) → All (Not-after e) vs → Apart t vs → prepend t e vs ≡ merge-in t (single e) vs
@@ -209,3 +209,170 @@ insert-merges t e (x ∷ xs) s =
         (prepend-merges t e (visits t (x ∷ xs))
             (visits-not-after t e (x ∷ xs) (unpassed-not-after t e x q, all-weaker (λ y. reading-before t x y ≡ true) (λ y. Not-after e (single y)) (unpassed-next t e x q) xs (s .0)))
             (visits-apart t (x ∷ xs) s)))
+
+-- Merging keeps visits in order and apart.
+all-merge : (t : Terms) (P : Visit → Type 0) → ((a b : Visit) → near t a b ≡ true → P a → P b → P (merged a b)) → (u : Visit) (vs : List Visit) → P u → All P vs → All P (merge-in t u vs)
+all-merge t P both u [] h a = (h, tt)
+all-merge t P both u (v ∷ vs) h a =
+    split (near t u v)
+    (λ n. simp n (all-merge t P both (merged u v) vs (both u v n h (a .0)) (a .1)))
+    (λ n. split (visit-before t v u)
+        (λ b. simp (n, b) (a .0, all-merge t P both u vs h (a .1)))
+        (λ b. simp (n, b) (h, a)))
+
+follows-merged : (t : Terms) (v a b : Visit) → near t a b ≡ true → Follows t v a → Follows t v b → Follows t v (merged a b)
+unfolding near
+follows-merged t v a b n f g = (f .0, grind (arith, tells))
+
+passed-follows : (t : Terms) (u v : Visit) → v .from ≤ v .to → u .from ≤ u .to → near t u v ≡ false → visit-before t v u ≡ true → Follows t v u
+unfolding near visit-before
+passed-follows t u v h k n b = (grind (arith, tells), grind (arith, tells))
+
+stopped-follows : (t : Terms) (u v : Visit) → v .from ≤ v .to → u .from ≤ u .to → near t u v ≡ false → visit-before t v u ≡ false → Follows t u v
+unfolding near visit-before
+stopped-follows t u v h k n b = (grind (arith, tells), grind (arith, tells))
+
+follows-follows : (t : Terms) (u v : Visit) → Follows t u v → v .from ≤ v .to → (w : Visit) → Follows t v w → Follows t u w
+follows-follows t u v f h w g = (omega arith, grind arith)
+
+all-follow : (t : Terms) (u v : Visit) (vs : List Visit) → Follows t u v → v .from ≤ v .to → All (Follows t v) vs → All (Follows t u) vs
+all-follow t u v vs f h a = all-weaker (Follows t v) (Follows t u) (follows-follows t u v f h) vs a
+
+pub merge-keeps-apart : (t : Terms) (u : Visit) (vs : List Visit) → u .from ≤ u .to → Apart t vs → Apart t (merge-in t u vs)
+merge-keeps-apart t u [] h p = (h, tt, tt)
+merge-keeps-apart t u (v ∷ vs) h p =
+    split (near t u v)
+    (λ n. simp n (merge-keeps-apart t (merged u v) vs (merged-order u v h) (p .2)))
+    (λ n. split (visit-before t v u)
+        (λ b. simp (n, b)
+            (p .0, all-merge t (Follows t v) (follows-merged t v) u vs (passed-follows t u v (p .0) h n b) (p .1), merge-keeps-apart t u vs h (p .2)))
+        (λ b. simp (n, b) (let f = stopped-follows t u v (p .0) h n b in (h, (f, all-follow t u v vs f (p .0) (p .1)), p))))
+
+-- The visits that are taken in are those near to the first, at every stage.
+near-same : (t : Terms) (u v : Visit) → u .from ≤ u .to → near t u v ≡ true → v .from ≤ v .to → (w : Visit) → Follows t v w × (w .from ≤ w .to) → near t (merged u v) w ≡ near t u w
+unfolding near
+near-same t u v h n k w f = grind (arith, tells)
+
+abbrev Unpassed : Terms → Visit → Visit → Type 0
+Unpassed t u w = near t u w ≡ false → visit-before t w u ≡ false
+
+follows-unpassed : (t : Terms) (u v : Visit) → v .from ≤ v .to → near t u v ≡ true → (w : Visit) → Follows t v w → Unpassed t (merged u v) w
+unfolding near visit-before
+follows-unpassed t u v h n w f q = grind (arith, tells)
+
+follows-not-near : (t : Terms) (u : Visit) → (w : Visit) → Follows t u w → near t u w ≡ false
+unfolding near
+follows-not-near t u w f = grind (arith, tells)
+
+pub kept-same : {X : Type 0} (p q : X → Bool) (xs : List X) → All (λ x. p x ≡ q x) xs → kept-by p xs ≡ kept-by q xs
+kept-same p q [] a = refl
+kept-same p q (x ∷ xs) a = simp (a .0, kept-same p q xs (a .1))
+
+pub kept-none : {X : Type 0} (p : X → Bool) (xs : List X) → All (λ x. p x ≡ false) xs → kept-by p xs ≡ []
+kept-none p [] a = refl
+kept-none p (x ∷ xs) a = simp (a .0, kept-none p xs (a .1))
+
+apart-orders : (t : Terms) (P : Visit → Type 0) (vs : List Visit) → Apart t vs → All P vs → All (λ v. P v × (v .from ≤ v .to)) vs
+apart-orders t P [] p a = tt
+apart-orders t P (v ∷ vs) p a = ((a .0, p .0), apart-orders t P vs (p .2) (a .1))
+
+near-ones-same : (t : Terms) (u v : Visit) (vs : List Visit) → u .from ≤ u .to → near t u v ≡ true → v .from ≤ v .to → All (Follows t v) vs → Apart t vs
+    → near-ones t (merged u v) vs ≡ near-ones t u vs
+near-ones-same t u v vs h n k a p =
+    kept-same (near t (merged u v)) (near t u) vs
+    (all-weaker (λ w. Follows t v w × (w .from ≤ w .to)) (λ w. near t (merged u v) w ≡ near t u w) (near-same t u v h n k) vs (apart-orders t (Follows t v) vs p a))
+
+-- Where none is passed: the near ones stand first, and become one.
+reached : (t : Terms) (u : Visit) (vs : List Visit) → u .from ≤ u .to → Apart t vs → All (Unpassed t u) vs
+    → (back : List Visit) × (vs ≡ near-ones t u vs ++ back) × (merge-in t u vs ≡ merged-with u (near-ones t u vs) ∷ back)
+reached t u [] h p a = ([], refl, refl)
+reached t u (v ∷ vs) h p a =
+    split (near t u v)
+    (λ n. let r = reached t (merged u v) vs (merged-order u v h) (p .2) (all-weaker (Follows t v) (Unpassed t (merged u v)) (follows-unpassed t u v (p .0) n) vs (p .1)) in
+        let q = near-ones-same t u v vs h n (p .0) (p .1) (p .2) in
+        (r .0, simp n (ap (λ (l : List Visit). v ∷ l) (r .1 ∙ ap (λ (l : List Visit). l ++ r .0) q)),
+            simp n (r .2 ∙ ap (λ (l : List Visit). merged-with (merged u v) l ∷ r .0) q)))
+    (λ n. let f = stopped-follows t u v (p .0) h n (a .0 n) in
+        let q : near-ones t u (v ∷ vs) ≡ [] = simp n (kept-none (near t u) vs (all-weaker (Follows t u) (λ w. near t u w ≡ false) (follows-not-near t u) vs (all-follow t u v vs f (p .0) (p .1)))) in
+        (v ∷ vs, ap (λ (l : List Visit). l ++ (v ∷ vs)) (sym q), merge-apart t u (v ∷ vs) h (f, all-follow t u v vs f (p .0) (p .1)) p ∙ ap (λ (l : List Visit). merged-with u l ∷ v ∷ vs) (sym q)))
+
+-- The parts of visits into which one is merged: those in front and behind stay, the near ones between them become one.
+pub record Merged-at (t : Terms) (u : Visit) (vs : List Visit) : Type 0 where
+  pub front : List Visit
+  pub back : List Visit
+  pub parts : vs ≡ front ++ (near-ones t u vs ++ back)
+  pub result : merge-in t u vs ≡ front ++ (merged-with u (near-ones t u vs) ∷ back)
+
+from-here : (t : Terms) (u : Visit) (vs : List Visit) → (back : List Visit) × (vs ≡ near-ones t u vs ++ back) × (merge-in t u vs ≡ merged-with u (near-ones t u vs) ∷ back) → Merged-at t u vs
+from-here t u vs r = record { front = []; back = r .0; parts = r .1; result = r .2 }
+
+passed-on : (t : Terms) (u v : Visit) (vs : List Visit) → near t u v ≡ false → visit-before t v u ≡ true → Merged-at t u vs → Merged-at t u (v ∷ vs)
+passed-on t u v vs n b r =
+    record {
+      front = v ∷ r .front;
+      back = r .back;
+      parts = simp n (ap (λ (l : List Visit). v ∷ l) (r .parts));
+      result = simp (n, b) (ap (λ (l : List Visit). v ∷ l) (r .result));
+    }
+
+unpassed-all : (t : Terms) (u v : Visit) → visit-before t v u ≡ false → v .from ≤ v .to → (w : Visit) → Follows t v w → Unpassed t u w
+unfolding visit-before
+unpassed-all t u v b h w f q = grind (arith, tells)
+
+near-unpassed : (t : Terms) (u v : Visit) → u .from ≤ u .to → near t u v ≡ true → v .from ≤ v .to → (w : Visit) → Follows t v w → Unpassed t u w
+unfolding near visit-before
+near-unpassed t u v k n h w f q = grind (arith, tells)
+
+pub merge-shape : (t : Terms) (u : Visit) (vs : List Visit) → u .from ≤ u .to → Apart t vs → Merged-at t u vs
+merge-shape t u [] h p = record { front = []; back = []; parts = refl; result = refl }
+merge-shape t u (v ∷ vs) h p =
+    split (near t u v)
+    (λ n. from-here t u (v ∷ vs) (reached t u (v ∷ vs) h p ((λ q. cc), all-weaker (Follows t v) (Unpassed t u) (near-unpassed t u v h n (p .0)) vs (p .1))))
+    (λ n. split (visit-before t v u)
+        (λ b. passed-on t u v vs n b (merge-shape t u vs h (p .2)))
+        (λ b. from-here t u (v ∷ vs) (reached t u (v ∷ vs) h p ((λ _. b), all-weaker (Follows t v) (Unpassed t u) (unpassed-all t u v b (p .0)) vs (p .1)))))
+
+-- A reading's own visit is near to two others at most, if these are apart.
+third-far : (t : Terms) (e : Reading) (v w : Visit) → near t (single e) v ≡ true → Follows t v w → w .from ≤ w .to → (x : Visit) → Follows t w x → near t (single e) x ≡ false
+unfolding near
+third-far t e v w n f h x g = grind (arith, tells)
+
+near-one : (t : Terms) (e : Reading) (v : Visit) (vs : List Visit) → near t (single e) v ≡ true → All (Follows t v) vs → Apart t vs → length (near-ones t (single e) vs) ≤ 1
+near-one t e v [] n a p = omega arith
+near-one t e v (w ∷ ws) n a p =
+    split (near t (single e) w)
+    (λ o. let q : near-ones t (single e) ws ≡ [] = kept-none (near t (single e)) ws (all-weaker (Follows t w) (λ x. near t (single e) x ≡ false) (third-far t e v w n (a .0) (p .0)) ws (p .1)) in
+        simp (o, q) (omega arith))
+    (λ o. simp o (near-one t e v ws n (a .1) (p .2)))
+
+pub near-two : (t : Terms) (e : Reading) (vs : List Visit) → Apart t vs → length (near-ones t (single e) vs) ≤ 2
+near-two t e [] p = omega arith
+near-two t e (v ∷ vs) p =
+    split (near t (single e) v)
+    (λ o. simp o (omega (arith, near-one t e v vs o (p .1) (p .2))))
+    (λ o. simp o (near-two t e vs (p .2)))
+
+-- The visits of two lists of readings, none of the first with any of the second in one visit, are those of each.
+abbrev pub Clear : Terms → List Reading → List Reading → Type 0
+Clear t xs ys = All (λ x. All (λ y. joins t x (single y) ≡ false) ys) xs
+
+unjoined-grown : (t : Terms) (x y : Reading) (v : Visit) → joins t x (single y) ≡ false → joins t y v ≡ true → joins t x (grown y v) ≡ false
+unfolding joins
+unjoined-grown t x y v o j = grind (arith, tells)
+
+prepend-unjoined : (t : Terms) (x y : Reading) (vs : List Visit) → joins t x (single y) ≡ false → All (λ v. joins t x v ≡ false) vs → All (λ v. joins t x v ≡ false) (prepend t y vs)
+prepend-unjoined t x y [] o a = (o, tt)
+prepend-unjoined t x y (v ∷ vs) o a = split (joins t y v) (λ j. simp j (unjoined-grown t x y v o j, a .1)) (λ j. simp j (o, a))
+
+visits-unjoined : (t : Terms) (x : Reading) (ys : List Reading) → All (λ y. joins t x (single y) ≡ false) ys → All (λ v. joins t x v ≡ false) (visits t ys)
+visits-unjoined t x [] a = tt
+visits-unjoined t x (y ∷ ys) a = prepend-unjoined t x y (visits t ys) (a .0) (visits-unjoined t x ys (a .1))
+
+prepend-append : (t : Terms) (x : Reading) (vs ws : List Visit) → All (λ v. joins t x v ≡ false) ws → prepend t x (vs ++ ws) ≡ prepend t x vs ++ ws
+prepend-append t x [] [] a = refl
+prepend-append t x [] (w ∷ ws) a = simp (a .0)
+prepend-append t x (v ∷ vs) ws a = split (joins t x v) (λ j. simp j) (λ j. simp j)
+
+pub visits-append : (t : Terms) (xs ys : List Reading) → Clear t xs ys → visits t (xs ++ ys) ≡ visits t xs ++ visits t ys
+visits-append t [] ys a = refl
+visits-append t (x ∷ xs) ys a = ap (prepend t x) (visits-append t xs ys (a .1)) ∙ prepend-append t x (visits t xs) (visits t ys) (visits-unjoined t x ys (a .0))

@@ -3,4 +3,5 @@ ghost use Rattle.model.specs.Sessions.{some};
 
 pub fn placeholder() {}
 
+mod few;
 mod unseen;
