@@ -1,8 +1,8 @@
 -- What the store keeps: how much, and for what.
 use mathlib.Core.Path.{_≡_, refl, sym, ap, _∙_, subst}
-use mathlib.Core.Bool.{Bool, true, false, cond, not, _&&_, _||_}
+use mathlib.Core.Bool.{Bool, true, false, not, _&&_, _||_}
 use mathlib.Core.List.{List, [], _∷_}
-use Prim.Native.Nat.{ℕ, zero, suc, _+_, _-_, _<_, _≤_, max}
+use Prim.Native.Nat.{ℕ, zero, suc, _-_, _<_, _≤_, max}
 use native.Mathlib.Omega.{arith}
 use lib.Dec.{eqb}
 use lib.ListN.{length}
@@ -16,14 +16,13 @@ use Rattle.visit.specs.declared.Terms.{Terms}
 use Rattle.visit.specs.declared.Visit.{Visit}
 use Rattle.visit.specs.Readings.{gap-of, kept, same-reading, too-late}
 use Rattle.visit.specs.Visits.{expired, grown, joins, live, merged, near, same-visit, single, visit-before}
-use Rattle.command.specs.declared.Command.{Command}
 use Rattle.command.specs.declared.Command.the-variants.{Reading as A-reading}
 use Rattle.command.specs.declared.Refusal.the-variants.{Duplicate}
 use Rattle.command.specs.Outcomes.{refused}
-use Rattle.model.specs.Kept.{Holds, May-change, Needs-all, recent}
+use Rattle.model.specs.Kept.{Holds, Little-kept, May-change, Needs-all, Nothing-in-vain, recent}
 use Rattle.model.specs.Reference.{Reference, after, empty}
 use Rattle.model.specs.Sessions.{contains, prepend, some, visits}
-use Rattle.model.specs.Store.{Store, empty-store, kept-only, live-only, merge-in, store-after, store-outcome, store-step}
+use Rattle.model.specs.Store.{Store, kept-only, live-only, merge-in, store-outcome, store-step}
 use Rattle.model.proofs.Order.{Apart, Follows, Sorted-readings, reference-sorted, split, visits-apart}
 use Rattle.model.proofs.Expiry.{all-in-itself, same-visits, some-kept}
 use Rattle.model.proofs.Totals.{all-some, apart-kept, follows-outside}
@@ -64,7 +63,7 @@ few-live t m (e ∷ es) = live-prepend t m e (visits t es) es (few-live t m es)
 pub image-holds : (t : Terms) (k : Reference) → Holds t (image t k) k
 image-holds t k = record { watermark = refl; live = refl; seen = refl; few = few-live t (k .watermark) (k .readings) }
 
-pub little-kept : (t : Terms) (cs : List Command) → Holds t (store-after t empty-store cs) (after t empty cs)
+pub little-kept : Little-kept
 little-kept t cs = subst (λ (s : Store). Holds t s (after t empty cs)) (sym (all-kept t cs)) (image-holds t (after t empty cs))
 
 -- A kept reading that comes again is refused.
@@ -176,10 +175,10 @@ unused-serial zero xs h = (0, omega arith, let e = nil-from-length xs (omega ari
 unused-serial (suc n) xs h =
     split (used (suc n) xs)
     (λ o.
-        let l = without-shorter (suc n) xs o in
-        let ih = unused-serial n (without (suc n) xs) (omega arith) in
-        let le = ih .1 in
-        (ih .0, omega arith, sym (unused-without (suc n) (ih .0) xs (omega arith)) ∙ ih .2))
+    let l = without-shorter (suc n) xs o in
+    let ih = unused-serial n (without (suc n) xs) (omega arith) in
+    let le = ih .1 in
+    (ih .0, omega arith, sym (unused-without (suc n) (ih .0) xs (omega arith)) ∙ ih .2))
     (λ o. (suc n, omega arith, o))
 
 unused-differs : (t : Terms) (e x : Reading) → eqb (x .serial) (e .serial) ≡ false → same-reading t e x ≡ false
@@ -221,14 +220,22 @@ may-change t s p v h =
     let a : too-late t (s .watermark) e ≡ false = reaching-timely t (s .watermark) v (u .0) in
     let b : contains t e (s .seen) ≡ false = unused-new t e (s .seen) (u .2) in
     let n : near t (single e) v ≡ true = reaching-near t (s .watermark) v (u .0) (h .0) (h .1) in
-    let g = near-merge t v (single e) (s .live) p (omega arith) n (h .2) in
-    (e, record {
-        card = refl; time = omega arith; serial = u .1; amount = refl; timely = a; unseen = b;
+    let g = near-merge t v (single e) (s .live) p (omega arith) n (h .2) in (
+      e,
+      record {
+        card = refl;
+        time = omega arith;
+        serial = u .1;
+        amount = refl;
+        timely = a;
+        unseen = b;
         changes =
             ap (λ (vs : List Visit). some (same-visit t v) vs) (reading-live t s e a b)
             ∙ some-kept t (live t (s .watermark)) v (merge-in t (single e) (s .live))
             ∙ ap (λ (x : Bool). live t (s .watermark) v && x) g
-            ∙ and-no (live t (s .watermark) v) })
+            ∙ and-no (live t (s .watermark) v);
+      },
+    )
 
 all-both : {X : Type 0} (P Q R : X → Type 0) (xs : List X) → All P xs → All Q xs → All R xs → All (λ x. P x × Q x × R x) xs
 all-both P Q R [] a b c = tt
@@ -253,5 +260,5 @@ image-needs t k s =
           (apart-order t vs p) (kept-by-passes (live t (k .watermark)) (visits t (k .readings))) (all-in-itself t vs));
     }
 
-pub nothing-in-vain : (t : Terms) (cs : List Command) → Needs-all t (store-after t empty-store cs)
+pub nothing-in-vain : Nothing-in-vain
 nothing-in-vain t cs = subst (λ (s : Store). Needs-all t s) (sym (all-kept t cs)) (image-needs t (after t empty cs) (reference-sorted t cs))
