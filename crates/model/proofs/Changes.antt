@@ -1,8 +1,8 @@
 -- What a command changes among the closed visits.
 use mathlib.Core.Path.{_≡_, refl, sym, ap, subst, _∙_}
-use mathlib.Core.Bool.{Bool, true, false, cond, not, _||_}
+use mathlib.Core.Bool.{Bool, true, false, not, _||_}
 use mathlib.Core.List.{List, [], _∷_, _++_}
-use Prim.Native.Nat.{ℕ, _+_, _<_, _≤_, max}
+use Prim.Native.Nat.{ℕ, _+_, _<_, _≤_}
 use native.Mathlib.Omega.{arith}
 use lib.Dec.{ltb}
 use lib.ListN.{length}
@@ -15,17 +15,16 @@ use Rattle.std.proofs.shelf.Ways.{tells}
 use Rattle.visit.specs.declared.Reading.{Reading}
 use Rattle.visit.specs.declared.Terms.{Terms}
 use Rattle.visit.specs.declared.Visit.{Visit}
-use Rattle.visit.specs.Readings.{gap-of, too-late}
+use Rattle.visit.specs.Readings.{too-late}
 use Rattle.visit.specs.Visits.{closed, merged, near, same-visit, single}
-use Rattle.command.specs.declared.Command.{Command}
-use Rattle.command.specs.declared.Command.the-variants.{Reading as A-reading, Watermark}
+use Rattle.command.specs.declared.Command.the-variants.{Reading as A-reading}
 use Rattle.command.specs.declared.Refusal.the-variants.{TooLate, Duplicate, Backwards}
-use Rattle.command.specs.Outcomes.{Outcome, changed, refused}
+use Rattle.command.specs.Outcomes.{changed, refused}
 use Rattle.model.specs.Few.{Few-changes, On-time, Only-what-is-met, Watermark-adds, became, merged-with, met, near-ones}
 use Rattle.model.specs.Reference.{Reference, after, closed-of, empty, outcome}
 use Rattle.model.specs.Sessions.{changes, closed-visits, contains, difference, insert-reading, some, visits}
 use Rattle.model.specs.Store.{merge-in}
-use Rattle.model.proofs.Merge.{Merged-at, insert-merges, kept-none, merge-keeps-apart, merge-shape, near-two}
+use Rattle.model.proofs.Merge.{insert-merges, kept-none, merge-keeps-apart, merge-shape, near-two}
 use Rattle.model.proofs.Order.{Apart, Follows, reference-sorted, split, visits-apart}
 
 -- Elements that pass some test, in lists that are put together or cut.
@@ -50,10 +49,12 @@ In t ws v = some (same-visit t v) ws ≡ true
 abbrev pub Absent : Terms → List Visit → Visit → Type 0
 Absent t ws v = some (same-visit t v) ws ≡ false
 
+in-more : (t : Terms) (v : Visit) (vs : List Visit) (w : Visit) → In t vs w → In t (v ∷ vs) w
+in-more t v vs w h = or-right (same-visit t w v) (some (same-visit t w) vs) h
+
 all-in : (t : Terms) (vs : List Visit) → All (In t vs) vs
 all-in t [] = tt
-all-in t (v ∷ vs) =
-    (simp (same-itself t v), all-weaker (In t vs) (In t (v ∷ vs)) (λ w h. or-right (same-visit t w v) (some (same-visit t w) vs) h) vs (all-in t vs))
+all-in t (v ∷ vs) = (simp (same-itself t v), all-weaker (In t vs) (In t (v ∷ vs)) (in-more t v vs) vs (all-in t vs))
 
 in-left : (t : Terms) (xs ys : List Visit) (v : Visit) → In t xs v → In t (xs ++ ys) v
 in-left t xs ys v h = some-append (same-visit t v) xs ys ∙ or-left (some (same-visit t v) xs) (some (same-visit t v) ys) h
@@ -84,7 +85,7 @@ difference-middle t ps ms zs ss a =
     let whole : List Visit = ps ++ (zs ++ ss) in
     let p : difference t ps whole ≡ [] = difference-none t ps whole (all-weaker (In t ps) (In t whole) (in-left t ps (zs ++ ss)) ps (all-in t ps)) in
     let s : difference t ss whole ≡ [] =
-        difference-none t ss whole (all-weaker (In t ss) (In t whole) (λ v h. in-right t ps (zs ++ ss) v (in-right t zs ss v h)) ss (all-in t ss)) in
+    difference-none t ss whole (all-weaker (In t ss) (In t whole) (λ v h. in-right t ps (zs ++ ss) v (in-right t zs ss v h)) ss (all-in t ss)) in
     let m : difference t ms whole ≡ ms = difference-all t ms whole a in
     difference-append t ps (ms ++ ss) whole
     ∙ (ap (λ (l : List Visit). l ++ difference t (ms ++ ss) whole) p
@@ -130,9 +131,6 @@ all-both P Q (x ∷ xs) a b = ((a .0, b .0), all-both P Q xs (a .1) (b .1))
 closed-parts : (t : Terms) (m : ℕ) (ps ms ss : List Visit) → closed-visits t m (ps ++ (ms ++ ss)) ≡ closed-visits t m ps ++ (closed-visits t m ms ++ closed-visits t m ss)
 closed-parts t m ps ms ss = kept-by-append (closed t m) ps (ms ++ ss) ∙ ap (λ (l : List Visit). closed-visits t m ps ++ l) (kept-by-append (closed t m) ms ss)
 
-never : _≡_ {A = ℕ} 0 1 → ⊥
-never h = omega arith
-
 closed-absent : (t : Terms) (m : ℕ) (ps zs ss : List Visit) (v : Visit) → Absent t ps v → Absent t zs v → Absent t ss v
     → Absent t (closed-visits t m ps ++ (closed-visits t m zs ++ closed-visits t m ss)) v
 closed-absent t m ps zs ss v p z s =
@@ -153,9 +151,9 @@ changes-replaced : (t : Terms) (m : ℕ) (vs ws ps ms zs ss : List Visit) → vs
     → All (Absent t zs) ms → All (Absent t ms) zs → changes t (closed-visits t m vs) (closed-visits t m ws) ≡ changed (closed-visits t m ms) (closed-visits t m zs)
 changes-replaced t m vs ws ps ms zs ss p q h k a b =
     let gone : difference t (closed-visits t m vs) (closed-visits t m ws) ≡ closed-visits t m ms =
-        rw (p, q) (replaced t m ps ms zs ss (subst (Apart t) p h) a) in
+    rw (p, q) (replaced t m ps ms zs ss (subst (Apart t) p h) a) in
     let new : difference t (closed-visits t m ws) (closed-visits t m vs) ≡ closed-visits t m zs =
-        rw (p, q) (replaced t m ps zs ms ss (subst (Apart t) q k) b) in
+    rw (p, q) (replaced t m ps zs ms ss (subst (Apart t) q k) b) in
     cc (gone, new)
 
 -- A visit made of others has more readings than each, and ends no earlier than the first.
@@ -201,16 +199,17 @@ taken-in t k e gone new h =
     split (too-late t (k .watermark) e)
     (λ o. let r : refused (TooLate (e .time)) ≡ changed gone new = simp o at h in cc)
     (λ o. split (contains t e (k .readings))
-        (λ q. let r : refused (Duplicate (e .time)) ≡ changed gone new = simp (o, q) at h in cc)
-        (λ q. simp (o, q) at h))
+    (λ q. let r : refused (Duplicate (e .time)) ≡ changed gone new = simp (o, q) at h in cc)
+    (λ q. simp (o, q) at h))
 
 pub only-what-is-met : Only-what-is-met
 only-what-is-met t cs e gone new h =
     let k : Reference = after t empty cs in
+    let m : ℕ = k .watermark in
     let s = reference-sorted t cs in
-    let q : changed (closed-visits t (k .watermark) (met t k e)) (closed-visits t (k .watermark) (became t k e ∷ [])) ≡ changed gone new =
-        sym (merging-changes t (k .watermark) e (visits t (k .readings)) (visits-apart t (k .readings) s))
-        ∙ (sym (ap (λ (l : List Visit). changes t (closed-of t k) (closed-visits t (k .watermark) l)) (insert-merges t e (k .readings) s)) ∙ taken-in t k e gone new h) in
+    let merges = ap (λ (l : List Visit). changes t (closed-of t k) (closed-visits t m l)) (insert-merges t e (k .readings) s) in
+    let law = merging-changes t m e (visits t (k .readings)) (visits-apart t (k .readings) s) in
+    let q : changed (closed-visits t m (met t k e)) (closed-visits t m (became t k e ∷ [])) ≡ changed gone new = sym law ∙ (sym merges ∙ taken-in t k e gone new h) in
     (cc q, cc q)
 
 -- So it changes few visits, and none if it is on time.
@@ -220,9 +219,10 @@ kept-shorter p xs = omega (arith, length-kept-by-both p (λ x. not (p x)) (λ _.
 pub few-changes : Few-changes
 few-changes t cs e gone new h =
     let k : Reference = after t empty cs in
+    let shorter = kept-shorter (closed t (k .watermark)) in
     let q = only-what-is-met t cs e gone new h in
     let two = near-two t e (visits t (k .readings)) (visits-apart t (k .readings) (reference-sorted t cs)) in
-    (rw (q .0) (omega (arith, kept-shorter (closed t (k .watermark)) (met t k e), two)), rw (q .1) (kept-shorter (closed t (k .watermark)) (became t k e ∷ [])))
+    (rw (q .0) (omega (arith, shorter (met t k e), two)), rw (q .1) (shorter (became t k e ∷ [])))
 
 near-open : (t : Terms) (m : ℕ) (e : Reading) → m ≤ e .time → (v : Visit) → near t (single e) v ≡ true → closed t m v ≡ false
 unfolding near closed
@@ -232,32 +232,42 @@ later-open : (t : Terms) (m : ℕ) (v : Visit) → m ≤ v .to → closed t m v 
 unfolding closed
 later-open t m v h = grind (arith, tells)
 
+all-open : (t : Terms) (m : ℕ) (e : Reading) (vs : List Visit) → m ≤ e .time → closed-visits t m (near-ones t (single e) vs) ≡ []
+all-open t m e vs h =
+    let ms : List Visit = near-ones t (single e) vs in
+    kept-none (closed t m) ms (all-weaker (λ v. near t (single e) v ≡ true) (λ v. closed t m v ≡ false) (near-open t m e h) ms (kept-by-passes (near t (single e)) vs))
+
+became-open : (t : Terms) (m : ℕ) (e : Reading) (ms : List Visit) → m ≤ e .time → closed-visits t m (merged-with (single e) ms ∷ []) ≡ []
+became-open t m e ms h = simp (later-open t m (merged-with (single e) ms) (omega (arith, with-to (single e) ms)))
+
 pub on-time : On-time
 on-time t cs e gone new h o =
     let k : Reference = after t empty cs in
     let q = only-what-is-met t cs e gone new o in
-    (q .0 ∙ kept-none (closed t (k .watermark)) (met t k e)
-        (all-weaker (λ v. near t (single e) v ≡ true) (λ v. closed t (k .watermark) v ≡ false) (near-open t (k .watermark) e h) (met t k e) (kept-by-passes (near t (single e)) (visits t (k .readings)))),
-    q .1 ∙ kept-none (closed t (k .watermark)) (became t k e ∷ []) (later-open t (k .watermark) (became t k e) (omega (arith, with-to (single e) (met t k e))), tt))
+    (q .0 ∙ all-open t (k .watermark) e (visits t (k .readings)) h, q .1 ∙ became-open t (k .watermark) e (met t k e) h)
 
 -- What is closed stays closed as the watermark rises.
-closed-on : (t : Terms) (m n : ℕ) (v : Visit) → m ≤ n → closed t m v ≡ true → closed t n v ≡ true
+open-before : (t : Terms) (m n : ℕ) (v : Visit) → m ≤ n → closed t n v ≡ false → closed t m v ≡ false
 unfolding closed
-closed-on t m n v h q = grind (arith, tells)
+open-before t m n v h o = grind (arith, tells)
 
 closed-in : (t : Terms) (m n : ℕ) (vs : List Visit) → m ≤ n → All (In t (closed-visits t n vs)) (closed-visits t m vs)
 closed-in t m n [] h = tt
 closed-in t m n (v ∷ vs) h =
+    let now : List Visit = closed-visits t n vs in
+    let rest = all-weaker (In t now) (In t (v ∷ now)) (in-more t v now) (closed-visits t m vs) (closed-in t m n vs h) in
     split (closed t n v)
-    (λ o. let rest = all-weaker (In t (closed-visits t n vs)) (In t (v ∷ closed-visits t n vs)) (λ w i. or-right (same-visit t w v) (some (same-visit t w) (closed-visits t n vs)) i) (closed-visits t m vs) (closed-in t m n vs h) in
-        split (closed t m v) (λ q. simp (o, q) (simp (same-itself t v), rest)) (λ q. simp (o, q) rest))
-    (λ o. split (closed t m v) (λ q. let bad : _≡_ {A = ℕ} 0 1 = cc (o, closed-on t m n v h q) in elim (never bad) [ ]) (λ q. simp (o, q) (closed-in t m n vs h)))
+    (λ o. split (closed t m v) (λ q. simp (o, q) (simp (same-itself t v), rest)) (λ q. simp (o, q) rest))
+    (λ o. simp (o, open-before t m n v h o) (closed-in t m n vs h))
+
+risen : (t : Terms) (k : Reference) (m : ℕ) (gone new : List Visit) → k .watermark ≤ m → changes t (closed-of t k) (closed-visits t m (visits t (k .readings))) ≡ changed gone new → gone ≡ []
+risen t k m gone new h r =
+    let vs : List Visit = visits t (k .readings) in
+    let n : difference t (closed-of t k) (closed-visits t m vs) ≡ [] = difference-none t (closed-of t k) (closed-visits t m vs) (closed-in t (k .watermark) m vs h) in
+    cc (r, n)
 
 pub watermark-adds : Watermark-adds
 watermark-adds t k m gone new h =
     split (ltb m (k .watermark))
     (λ o. let r : refused (Backwards m) ≡ changed gone new = simp o at h in cc)
-    (λ o. let r : changes t (closed-of t k) (closed-visits t m (visits t (k .readings))) ≡ changed gone new = simp o at h in
-        let n : difference t (closed-of t k) (closed-visits t m (visits t (k .readings))) ≡ [] =
-            difference-none t (closed-of t k) (closed-visits t m (visits t (k .readings))) (closed-in t (k .watermark) m (visits t (k .readings)) (ltb-false m (k .watermark) o)) in
-        cc (r, n))
+    (λ o. risen t k m gone new (ltb-false m (k .watermark) o) (simp o at h))

@@ -2,7 +2,7 @@
 use mathlib.Core.Path.{_≡_, refl, sym, ap, _∙_}
 use mathlib.Core.Bool.{Bool, true, false, cond}
 use mathlib.Core.List.{List, [], _∷_, _++_}
-use Prim.Native.Nat.{ℕ, _+_, _<_, _≤_, min, max}
+use Prim.Native.Nat.{ℕ, _+_, _≤_, min, max}
 use native.Mathlib.Omega.{arith}
 use lib.ListN.{length}
 use Rattle.std.specs.shelf.Lists.{All, kept-by}
@@ -67,7 +67,7 @@ merge-apart t u [] h a p = refl
 merge-apart t u (v ∷ vs) h a p = let q = follows-far t u v h (p .0) (a .0) in simp (q .0, q .1)
 
 -- A reading that joins the visit that is merged.
--- near stays near at a longer front
+-- what is near stays near to a visit with a longer front
 grown-near : (t : Terms) (x : Reading) (w v : Visit) → joins t x w ≡ true → Not-after x v → v .from ≤ v .to → near t w v ≡ true → near t (grown x w) v ≡ true
 unfolding near joins
 grown-near t x w v o l h n = grind (arith, tells)
@@ -110,7 +110,7 @@ joins-through t x w [] o h a p = simp o
 joins-through t x w (v ∷ vs) o h a p =
     split (near t w v)
     (λ n. simp (n, grown-near t x w v o (a .0) (p .0) n, grown-merged t x w v o n (a .0))
-        (joins-through t x (merged w v) vs (joins-merged t x w v o n) (merged-order w v h) (a .1) (p .2)))
+    (joins-through t x (merged w v) vs (joins-merged t x w v o n) (merged-order w v h) (a .1) (p .2)))
     (λ n. simp (n, grown-unpassed t x w v o (a .0) (p .0) h n, grown-far t x w v o (a .0) (p .0) h n, grown-stops t x w v o (a .0), o))
 
 -- A reading that is far from the visit that is merged and from all others.
@@ -126,7 +126,7 @@ far-through t x w (v ∷ vs) o a =
     (λ n. simp n (far-through t x (merged w v) vs (far-merged t x w v o (a .0) n) (a .1)))
     (λ n. split (visit-before t v w) (λ b. simp (n, b, a .0)) (λ b. simp (n, b, o)))
 
--- A reading that joins the visit that is reached, or none.
+-- A reading that joins the first of the visits into which one is merged.
 near-grown : (t : Terms) (x : Reading) (u v : Visit) → Not-after x u → u .from ≤ u .to → joins t x v ≡ true → near t u v ≡ true → near t u (grown x v) ≡ true
 unfolding near joins
 near-grown t x u v l h o n = grind (arith, tells)
@@ -194,21 +194,22 @@ prepend-merges t e [] a p = refl
 prepend-merges t e (v ∷ vs) a p =
     split (joins t e v)
     (λ o. simp (single-near t e v (a .0) (p .0), o, single-merged t e v (a .0) (p .0) o)
-        (sym (merge-apart t (grown e v) vs (joined-time t e v (a .0) (p .0) o .2) (p .1) (p .2))))
+    (sym (merge-apart t (grown e v) vs (joined-time t e v (a .0) (p .0) o .2) (p .1) (p .2))))
     (λ o. simp (single-near t e v (a .0) (p .0), o, not-before t e v (a .0)))
+
+unpassed-all-readings : (t : Terms) (e x : Reading) (xs : List Reading) → reading-before t x e ≡ false → Sorted-readings t (x ∷ xs) → All (λ y. Not-after e (single y)) (x ∷ xs)
+unpassed-all-readings t e x xs q s =
+    (unpassed-not-after t e x q, all-weaker (λ y. reading-before t x y ≡ true) (λ y. Not-after e (single y)) (unpassed-next t e x q) xs (s .0))
 
 -- To put a reading among others is to merge its visit into theirs.
 pub insert-merges : (t : Terms) (e : Reading) (xs : List Reading) → Sorted-readings t xs → visits t (insert-reading t e xs) ≡ merge-in t (single e) (visits t xs)
 insert-merges t e [] s = refl
 insert-merges t e (x ∷ xs) s =
+    let passed = front-merge t x (single e) (visits t xs) in
+    let not-after = visits-not-after t e (x ∷ xs) in
     split (reading-before t x e)
-    (λ q. simp q
-        (ap (prepend t x) (insert-merges t e xs (s .1))
-        ∙ front-merge t x (single e) (visits t xs) (before-not-after t x e q) (omega arith) (sorted-not-after t x xs (s .0)) (visits-apart t xs (s .1))))
-    (λ q. simp q
-        (prepend-merges t e (visits t (x ∷ xs))
-            (visits-not-after t e (x ∷ xs) (unpassed-not-after t e x q, all-weaker (λ y. reading-before t x y ≡ true) (λ y. Not-after e (single y)) (unpassed-next t e x q) xs (s .0)))
-            (visits-apart t (x ∷ xs) s)))
+    (λ q. simp q (ap (prepend t x) (insert-merges t e xs (s .1)) ∙ passed (before-not-after t x e q) (omega arith) (sorted-not-after t x xs (s .0)) (visits-apart t xs (s .1))))
+    (λ q. simp q (prepend-merges t e (visits t (x ∷ xs)) (not-after (unpassed-all-readings t e x xs q s)) (visits-apart t (x ∷ xs) s)))
 
 -- Merging keeps visits in order and apart.
 all-merge : (t : Terms) (P : Visit → Type 0) → ((a b : Visit) → near t a b ≡ true → P a → P b → P (merged a b)) → (u : Visit) (vs : List Visit) → P u → All P vs → All P (merge-in t u vs)
@@ -217,8 +218,8 @@ all-merge t P both u (v ∷ vs) h a =
     split (near t u v)
     (λ n. simp n (all-merge t P both (merged u v) vs (both u v n h (a .0)) (a .1)))
     (λ n. split (visit-before t v u)
-        (λ b. simp (n, b) (a .0, all-merge t P both u vs h (a .1)))
-        (λ b. simp (n, b) (h, a)))
+    (λ b. simp (n, b) (a .0, all-merge t P both u vs h (a .1)))
+    (λ b. simp (n, b) (h, a)))
 
 follows-merged : (t : Terms) (v a b : Visit) → near t a b ≡ true → Follows t v a → Follows t v b → Follows t v (merged a b)
 unfolding near
@@ -244,9 +245,9 @@ merge-keeps-apart t u (v ∷ vs) h p =
     split (near t u v)
     (λ n. simp n (merge-keeps-apart t (merged u v) vs (merged-order u v h) (p .2)))
     (λ n. split (visit-before t v u)
-        (λ b. simp (n, b)
-            (p .0, all-merge t (Follows t v) (follows-merged t v) u vs (passed-follows t u v (p .0) h n b) (p .1), merge-keeps-apart t u vs h (p .2)))
-        (λ b. simp (n, b) (let f = stopped-follows t u v (p .0) h n b in (h, (f, all-follow t u v vs f (p .0) (p .1)), p))))
+    (λ b. simp (n, b)
+    (p .0, all-merge t (Follows t v) (follows-merged t v) u vs (passed-follows t u v (p .0) h n b) (p .1), merge-keeps-apart t u vs h (p .2)))
+    (λ b. simp (n, b) (let f = stopped-follows t u v (p .0) h n b in (h, (f, all-follow t u v vs f (p .0) (p .1)), p))))
 
 -- The visits that are taken in are those near to the first, at every stage.
 near-same : (t : Terms) (u v : Visit) → u .from ≤ u .to → near t u v ≡ true → v .from ≤ v .to → (w : Visit) → Follows t v w × (w .from ≤ w .to) → near t (merged u v) w ≡ near t u w
@@ -283,18 +284,28 @@ near-ones-same t u v vs h n k a p =
     (all-weaker (λ w. Follows t v w × (w .from ≤ w .to)) (λ w. near t (merged u v) w ≡ near t u w) (near-same t u v h n k) vs (apart-orders t (Follows t v) vs p a))
 
 -- Where none is passed: the near ones stand first, and become one.
-reached : (t : Terms) (u : Visit) (vs : List Visit) → u .from ≤ u .to → Apart t vs → All (Unpassed t u) vs
-    → (back : List Visit) × (vs ≡ near-ones t u vs ++ back) × (merge-in t u vs ≡ merged-with u (near-ones t u vs) ∷ back)
+abbrev Reached : Terms → Visit → List Visit → Type 0
+Reached t u vs = (back : List Visit) × (vs ≡ near-ones t u vs ++ back) × (merge-in t u vs ≡ merged-with u (near-ones t u vs) ∷ back)
+
+reached-near : (t : Terms) (u v : Visit) (vs : List Visit) → near t u v ≡ true → near-ones t (merged u v) vs ≡ near-ones t u vs → Reached t (merged u v) vs → Reached t u (v ∷ vs)
+reached-near t u v vs n q r =
+    let whole : vs ≡ near-ones t u vs ++ r .0 = r .1 ∙ ap (λ (l : List Visit). l ++ r .0) q in
+    let result : merge-in t (merged u v) vs ≡ merged-with (merged u v) (near-ones t u vs) ∷ r .0 = r .2 ∙ ap (λ (l : List Visit). merged-with (merged u v) l ∷ r .0) q in
+    (r .0, simp n (ap (λ (l : List Visit). v ∷ l) whole), simp n result)
+
+reached-none : (t : Terms) (u : Visit) (vs : List Visit) → u .from ≤ u .to → All (Follows t u) vs → Apart t vs → Reached t u vs
+reached-none t u vs h a p =
+    let q : near-ones t u vs ≡ [] = kept-none (near t u) vs (all-weaker (Follows t u) (λ w. near t u w ≡ false) (follows-not-near t u) vs a) in
+    (vs, ap (λ (l : List Visit). l ++ vs) (sym q), merge-apart t u vs h a p ∙ ap (λ (l : List Visit). merged-with u l ∷ vs) (sym q))
+
+reached : (t : Terms) (u : Visit) (vs : List Visit) → u .from ≤ u .to → Apart t vs → All (Unpassed t u) vs → Reached t u vs
 reached t u [] h p a = ([], refl, refl)
 reached t u (v ∷ vs) h p a =
     split (near t u v)
-    (λ n. let r = reached t (merged u v) vs (merged-order u v h) (p .2) (all-weaker (Follows t v) (Unpassed t (merged u v)) (follows-unpassed t u v (p .0) n) vs (p .1)) in
-        let q = near-ones-same t u v vs h n (p .0) (p .1) (p .2) in
-        (r .0, simp n (ap (λ (l : List Visit). v ∷ l) (r .1 ∙ ap (λ (l : List Visit). l ++ r .0) q)),
-            simp n (r .2 ∙ ap (λ (l : List Visit). merged-with (merged u v) l ∷ r .0) q)))
+    (λ n. let next = all-weaker (Follows t v) (Unpassed t (merged u v)) (follows-unpassed t u v (p .0) n) vs (p .1) in
+    reached-near t u v vs n (near-ones-same t u v vs h n (p .0) (p .1) (p .2)) (reached t (merged u v) vs (merged-order u v h) (p .2) next))
     (λ n. let f = stopped-follows t u v (p .0) h n (a .0 n) in
-        let q : near-ones t u (v ∷ vs) ≡ [] = simp n (kept-none (near t u) vs (all-weaker (Follows t u) (λ w. near t u w ≡ false) (follows-not-near t u) vs (all-follow t u v vs f (p .0) (p .1)))) in
-        (v ∷ vs, ap (λ (l : List Visit). l ++ (v ∷ vs)) (sym q), merge-apart t u (v ∷ vs) h (f, all-follow t u v vs f (p .0) (p .1)) p ∙ ap (λ (l : List Visit). merged-with u l ∷ v ∷ vs) (sym q)))
+    reached-none t u (v ∷ vs) h (f, all-follow t u v vs f (p .0) (p .1)) p)
 
 -- The parts of visits into which one is merged: those in front and behind stay, the near ones between them become one.
 pub record Merged-at (t : Terms) (u : Visit) (vs : List Visit) : Type 0 where
@@ -303,7 +314,7 @@ pub record Merged-at (t : Terms) (u : Visit) (vs : List Visit) : Type 0 where
   pub parts : vs ≡ front ++ (near-ones t u vs ++ back)
   pub result : merge-in t u vs ≡ front ++ (merged-with u (near-ones t u vs) ∷ back)
 
-from-here : (t : Terms) (u : Visit) (vs : List Visit) → (back : List Visit) × (vs ≡ near-ones t u vs ++ back) × (merge-in t u vs ≡ merged-with u (near-ones t u vs) ∷ back) → Merged-at t u vs
+from-here : (t : Terms) (u : Visit) (vs : List Visit) → Reached t u vs → Merged-at t u vs
 from-here t u vs r = record { front = []; back = r .0; parts = r .1; result = r .2 }
 
 passed-on : (t : Terms) (u v : Visit) (vs : List Visit) → near t u v ≡ false → visit-before t v u ≡ true → Merged-at t u vs → Merged-at t u (v ∷ vs)
@@ -326,11 +337,12 @@ near-unpassed t u v k n h w f q = grind (arith, tells)
 pub merge-shape : (t : Terms) (u : Visit) (vs : List Visit) → u .from ≤ u .to → Apart t vs → Merged-at t u vs
 merge-shape t u [] h p = record { front = []; back = []; parts = refl; result = refl }
 merge-shape t u (v ∷ vs) h p =
+    let rest = λ (each : (w : Visit) → Follows t v w → Unpassed t u w). all-weaker (Follows t v) (Unpassed t u) each vs (p .1) in
     split (near t u v)
-    (λ n. from-here t u (v ∷ vs) (reached t u (v ∷ vs) h p ((λ q. cc), all-weaker (Follows t v) (Unpassed t u) (near-unpassed t u v h n (p .0)) vs (p .1))))
+    (λ n. from-here t u (v ∷ vs) (reached t u (v ∷ vs) h p ((λ q. cc), rest (near-unpassed t u v h n (p .0)))))
     (λ n. split (visit-before t v u)
-        (λ b. passed-on t u v vs n b (merge-shape t u vs h (p .2)))
-        (λ b. from-here t u (v ∷ vs) (reached t u (v ∷ vs) h p ((λ _. b), all-weaker (Follows t v) (Unpassed t u) (unpassed-all t u v b (p .0)) vs (p .1)))))
+    (λ b. passed-on t u v vs n b (merge-shape t u vs h (p .2)))
+    (λ b. from-here t u (v ∷ vs) (reached t u (v ∷ vs) h p ((λ _. b), rest (unpassed-all t u v b (p .0))))))
 
 -- A reading's own visit is near to two others at most, if these are apart.
 third-far : (t : Terms) (e : Reading) (v w : Visit) → near t (single e) v ≡ true → Follows t v w → w .from ≤ w .to → (x : Visit) → Follows t w x → near t (single e) x ≡ false
@@ -340,9 +352,9 @@ third-far t e v w n f h x g = grind (arith, tells)
 near-one : (t : Terms) (e : Reading) (v : Visit) (vs : List Visit) → near t (single e) v ≡ true → All (Follows t v) vs → Apart t vs → length (near-ones t (single e) vs) ≤ 1
 near-one t e v [] n a p = omega arith
 near-one t e v (w ∷ ws) n a p =
+    let far = all-weaker (Follows t w) (λ x. near t (single e) x ≡ false) (third-far t e v w n (a .0) (p .0)) ws (p .1) in
     split (near t (single e) w)
-    (λ o. let q : near-ones t (single e) ws ≡ [] = kept-none (near t (single e)) ws (all-weaker (Follows t w) (λ x. near t (single e) x ≡ false) (third-far t e v w n (a .0) (p .0)) ws (p .1)) in
-        simp (o, q) (omega arith))
+    (λ o. simp (o, kept-none (near t (single e)) ws far) (omega arith))
     (λ o. simp o (near-one t e v ws n (a .1) (p .2)))
 
 pub near-two : (t : Terms) (e : Reading) (vs : List Visit) → Apart t vs → length (near-ones t (single e) vs) ≤ 2

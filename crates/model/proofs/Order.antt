@@ -117,8 +117,8 @@ insert-sorted t e (x ∷ xs) c s =
     split (reading-before t x e)
     (λ q. simp q (all-insert t (λ y. reading-before t x y ≡ true) e xs q (s .0), insert-sorted t e xs (d .1) (s .1)))
     (λ q. simp q
-        (let b = unpassed-before t e x (d .0) q in
-        ((b, all-weaker (λ y. reading-before t x y ≡ true) (λ y. reading-before t e y ≡ true) (λ y h. before-before t e x y b h) xs (s .0)), s)))
+    (let b = unpassed-before t e x (d .0) q in
+    ((b, all-weaker (λ y. reading-before t x y ≡ true) (λ y. reading-before t e y ≡ true) (λ y h. before-before t e x y b h) xs (s .0)), s)))
 
 -- Every state of the reference is sorted.
 step-sorted : (t : Terms) (k : Reference) (c : Command) → Sorted-readings t (k .readings) → Sorted-readings t (step t k c .readings)
