@@ -1,8 +1,8 @@
 -- Expired visits and readings that are too late change nothing that a command does.
-use mathlib.Core.Path.{_≡_, refl, sym, ap, _∙_, subst}
-use mathlib.Core.Bool.{Bool, true, false, cond, not, _&&_, _||_}
+use mathlib.Core.Path.{_≡_, refl, sym, ap, _∙_}
+use mathlib.Core.Bool.{Bool, true, false, not, _&&_}
 use mathlib.Core.List.{List, [], _∷_}
-use Prim.Native.Nat.{ℕ, _+_, _<_, _≤_, min, max}
+use Prim.Native.Nat.{ℕ, _<_, _≤_}
 use native.Mathlib.Omega.{arith}
 use Rattle.std.specs.shelf.Lists.{All, kept-by}
 use Rattle.std.proofs.shelf.Elements.{all-weaker}
@@ -14,22 +14,19 @@ use Rattle.visit.specs.Readings.{gap-of, kept, reading-before, same-reading, to
 use Rattle.visit.specs.Visits.{closed, expired, live, merged, near, same-visit, single, visit-before}
 use Rattle.model.specs.Sessions.{closed-visits, contains, difference, insert-reading, some}
 use Rattle.model.specs.Store.{kept-only, live-only, merge-in}
+use Rattle.model.proofs.Merge.{kept-same}
 use Rattle.model.proofs.Order.{Apart, Follows, Sorted-readings, split}
 
--- Filters: one after the other is one; tests that agree on each element keep the same.
+-- Filters: one after the other is one; tests that agree keep the same.
 pub kept-twice : {X : Type 0} (p q : X → Bool) (xs : List X) → kept-by p (kept-by q xs) ≡ kept-by (λ x. q x && p x) xs
 kept-twice p q [] = refl
 kept-twice p q (x ∷ xs) = let ih = kept-twice p q xs in split (q x) (λ o. simp (o, ih)) (λ o. simp (o, ih))
-
-pub kept-same : {X : Type 0} (p q : X → Bool) (xs : List X) → All (λ x. p x ≡ q x) xs → kept-by p xs ≡ kept-by q xs
-kept-same p q [] a = refl
-kept-same p q (x ∷ xs) a = let h = a .0 in let ih = kept-same p q xs (a .1) in simp (h, ih)
 
 pub kept-alike : {X : Type 0} (p q : X → Bool) → ((x : X) → p x ≡ q x) → (xs : List X) → kept-by p xs ≡ kept-by q xs
 kept-alike p q h [] = refl
 kept-alike p q h (x ∷ xs) = let k = h x in let ih = kept-alike p q h xs in simp (k, ih)
 
--- What the tests tell of each other.
+-- What the tests tell of each other. Of `kept` no more is used than this: a reading that is not too late is kept, and what is kept was kept before.
 pub timely-kept : (t : Terms) (m : ℕ) (e : Reading) → too-late t m e ≡ false → kept t m e ≡ true
 unfolding kept
 timely-kept t m e h = simp h
@@ -37,6 +34,9 @@ timely-kept t m e h = simp h
 pub kept-rising : (t : Terms) (m n : ℕ) → m ≤ n → (e : Reading) → (kept t m e && kept t n e) ≡ kept t n e
 unfolding kept too-late
 kept-rising t m n h e = grind (arith, tells)
+
+unkept-late : (t : Terms) (m : ℕ) (e : Reading) → kept t m e ≡ false → too-late t m e ≡ true
+unkept-late t m e h = split (too-late t m e) (λ o. o) (λ o. let k = timely-kept t m e o in cc)
 
 pub live-rising : (t : Terms) (m n : ℕ) → m ≤ n → (v : Visit) → (live t m v && live t n v) ≡ live t n v
 unfolding live expired
@@ -210,23 +210,23 @@ difference-live t m n k vs ws c d =
     and-assoc false b c = refl
 
 -- A reading that is not too late is found among the kept ones if it is among all.
-same-kept : (t : Terms) (m : ℕ) (e x : Reading) → too-late t m e ≡ false → kept t m x ≡ false → same-reading t e x ≡ false
-unfolding kept too-late same-reading
-same-kept t m e x h k = grind (arith, tells)
+late-differs : (t : Terms) (m : ℕ) (e x : Reading) → too-late t m e ≡ false → too-late t m x ≡ true → same-reading t e x ≡ false
+unfolding too-late same-reading
+late-differs t m e x h k = grind (arith, tells)
 
 pub contains-kept : (t : Terms) (m : ℕ) (e : Reading) (xs : List Reading) → too-late t m e ≡ false → contains t e (kept-only t m xs) ≡ contains t e xs
 contains-kept t m e [] h = refl
 contains-kept t m e (x ∷ xs) h =
     let ih = contains-kept t m e xs h in
-    split (kept t m x) (λ k. simp (k, ih)) (λ k. let q = same-kept t m e x h k in simp (k, q, ih))
+    split (kept t m x) (λ k. simp (k, ih)) (λ k. let q = late-differs t m e x h (unkept-late t m x k) in simp (k, q, ih))
 
 -- Putting it in its place and forgetting those that are too late go in either order.
-late-stop : (t : Terms) (m : ℕ) (e x y : Reading) → too-late t m e ≡ false → kept t m x ≡ false → reading-before t x e ≡ false → reading-before t x y ≡ true
+late-stop : (t : Terms) (m : ℕ) (e x y : Reading) → too-late t m e ≡ false → too-late t m x ≡ true → reading-before t x e ≡ false → reading-before t x y ≡ true
     → reading-before t y e ≡ false
-unfolding kept too-late reading-before
+unfolding too-late reading-before
 late-stop t m e x y h k o b = grind (arith, tells)
 
-insert-first : (t : Terms) (m : ℕ) (e x : Reading) (ys : List Reading) → too-late t m e ≡ false → kept t m x ≡ false → reading-before t x e ≡ false
+insert-first : (t : Terms) (m : ℕ) (e x : Reading) (ys : List Reading) → too-late t m e ≡ false → too-late t m x ≡ true → reading-before t x e ≡ false
     → All (λ y. reading-before t x y ≡ true) ys → insert-reading t e (kept-only t m ys) ≡ e ∷ kept-only t m ys
 insert-first t m e x [] h k o a = refl
 insert-first t m e x (y ∷ ys) h k o a =
@@ -242,7 +242,7 @@ insert-kept t m e (x ∷ xs) h s =
     let ih = insert-kept t m e xs h (s .1) in
     split (reading-before t x e)
     (λ o. split (kept t m x) (λ k. simp (o, k, ih)) (λ k. simp (o, k, ih)))
-    (λ o. split (kept t m x) (λ k. simp (o, k, j)) (λ k. let q = insert-first t m e x xs h k o (s .0) in simp (o, k, j, q)))
+    (λ o. split (kept t m x) (λ k. simp (o, k, j)) (λ k. let q = insert-first t m e x xs h (unkept-late t m x k) o (s .0) in simp (o, k, j, q)))
 
 -- Forgetting at a watermark and then at a later one is forgetting at the later one.
 pub live-twice : (t : Terms) (m n : ℕ) → m ≤ n → (vs : List Visit) → live-only t n (live-only t m vs) ≡ live-only t n vs

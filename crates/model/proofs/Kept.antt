@@ -1,26 +1,28 @@
 -- What the store keeps: how much, and for what.
 use mathlib.Core.Path.{_≡_, refl, sym, ap, _∙_, subst}
-use mathlib.Core.Bool.{Bool, true, false, cond, not, _&&_, _||_}
+use mathlib.Core.Bool.{Bool, true, false, not, _&&_, _||_}
 use mathlib.Core.List.{List, [], _∷_}
-use Prim.Native.Nat.{ℕ, suc, _+_, _<_, _≤_, max}
+use Prim.Native.Nat.{ℕ, zero, suc, _-_, _<_, _≤_, max}
 use native.Mathlib.Omega.{arith}
+use lib.Dec.{eqb}
 use lib.ListN.{length}
 use Rattle.std.specs.shelf.Lists.{All, kept-by}
 use Rattle.std.proofs.shelf.Elements.{all-weaker, kept-by-passes}
+use Rattle.std.proofs.shelf.Lists.{nil-from-length}
+use Rattle.std.proofs.shelf.Tests.{or-parts}
 use Rattle.std.proofs.shelf.Ways.{tells}
 use Rattle.visit.specs.declared.Reading.{Reading}
 use Rattle.visit.specs.declared.Terms.{Terms}
 use Rattle.visit.specs.declared.Visit.{Visit}
 use Rattle.visit.specs.Readings.{gap-of, kept, same-reading, too-late}
 use Rattle.visit.specs.Visits.{expired, grown, joins, live, merged, near, same-visit, single, visit-before}
-use Rattle.command.specs.declared.Command.{Command}
 use Rattle.command.specs.declared.Command.the-variants.{Reading as A-reading}
 use Rattle.command.specs.declared.Refusal.the-variants.{Duplicate}
 use Rattle.command.specs.Outcomes.{refused}
-use Rattle.model.specs.Kept.{Holds, May-change, Needs-all, recent}
+use Rattle.model.specs.Kept.{Holds, Little-kept, May-change, Needs-all, Nothing-in-vain, recent}
 use Rattle.model.specs.Reference.{Reference, after, empty}
 use Rattle.model.specs.Sessions.{contains, prepend, some, visits}
-use Rattle.model.specs.Store.{Store, empty-store, kept-only, live-only, merge-in, store-after, store-outcome, store-step}
+use Rattle.model.specs.Store.{Store, kept-only, live-only, merge-in, store-outcome, store-step}
 use Rattle.model.proofs.Order.{Apart, Follows, Sorted-readings, reference-sorted, split, visits-apart}
 use Rattle.model.proofs.Expiry.{all-in-itself, same-visits, some-kept}
 use Rattle.model.proofs.Totals.{all-some, apart-kept, follows-outside}
@@ -61,7 +63,7 @@ few-live t m (e ∷ es) = live-prepend t m e (visits t es) es (few-live t m es)
 pub image-holds : (t : Terms) (k : Reference) → Holds t (image t k) k
 image-holds t k = record { watermark = refl; live = refl; seen = refl; few = few-live t (k .watermark) (k .readings) }
 
-pub little-kept : (t : Terms) (cs : List Command) → Holds t (store-after t empty-store cs) (after t empty cs)
+pub little-kept : Little-kept
 little-kept t cs = subst (λ (s : Store). Holds t s (after t empty cs)) (sym (all-kept t cs)) (image-holds t (after t empty cs))
 
 -- A kept reading that comes again is refused.
@@ -144,33 +146,64 @@ near-merge t v u (w ∷ ws) p h n i =
     (λ b. let ih = near-merge t v u ws (p .2) h n j in simp (o, b, s, ih))
     (λ b. absurd (let f = near-stop t u w v (p .0) o b (all-some t (Follows t w) v ws (p .1) j) in let z : _≡_ {A = ℕ} 0 1 = cc (f, n) in omega arith))))
 
--- A reading of a serial that none has.
-abbrev pub past-serials : List Reading → ℕ
-past-serials [] = 0
-past-serials (x ∷ xs) = max (suc (x .serial)) (past-serials xs)
+-- Of readings that are n at most, some serial up to n is not used.
+abbrev used : ℕ → List Reading → Bool
+used n xs = some (λ x. eqb (x .serial) n) xs
 
-other-serial : (t : Terms) (e x : Reading) → x .serial < e .serial → same-reading t e x ≡ false
+abbrev without : ℕ → List Reading → List Reading
+without n xs = kept-by (λ x. not (eqb (x .serial) n)) xs
+
+without-short : (n : ℕ) (xs : List Reading) → length (without n xs) ≤ length xs
+without-short n [] = omega arith
+without-short n (x ∷ xs) = let ih = without-short n xs in split (eqb (x .serial) n) (λ o. simp o (omega arith)) (λ o. simp o (omega arith))
+
+without-shorter : (n : ℕ) (xs : List Reading) → used n xs ≡ true → length (without n xs) < length xs
+without-shorter n [] h = absurd (let z : _≡_ {A = ℕ} 0 1 = cc h in omega arith)
+without-shorter n (x ∷ xs) h =
+    split (eqb (x .serial) n)
+    (λ o. let k = without-short n xs in simp o (omega arith))
+    (λ o. let ih = without-shorter n xs (sym (ap (λ (b : Bool). b || used n xs) o) ∙ h) in simp o (omega arith))
+
+unused-without : (n k : ℕ) (xs : List Reading) → k < n → used k (without n xs) ≡ used k xs
+unused-without n k [] h = refl
+unused-without n k (x ∷ xs) h =
+    let ih = unused-without n k xs h in
+    split (eqb (x .serial) n) (λ o. let q : eqb (x .serial) k ≡ false = grind (arith, tells) in simp (o, q, ih)) (λ o. simp (o, ih))
+
+pub unused-serial : (n : ℕ) (xs : List Reading) → length xs ≤ n → (k : ℕ) × (k ≤ n) × (used k xs ≡ false)
+unused-serial zero xs h = (0, omega arith, let e = nil-from-length xs (omega arith) in ap (λ (ys : List Reading). used 0 ys) e)
+unused-serial (suc n) xs h =
+    split (used (suc n) xs)
+    (λ o.
+    let l = without-shorter (suc n) xs o in
+    let ih = unused-serial n (without (suc n) xs) (omega arith) in
+    let le = ih .1 in
+    (ih .0, omega arith, sym (unused-without (suc n) (ih .0) xs (omega arith)) ∙ ih .2))
+    (λ o. (suc n, omega arith, o))
+
+unused-differs : (t : Terms) (e x : Reading) → eqb (x .serial) (e .serial) ≡ false → same-reading t e x ≡ false
 unfolding same-reading
-other-serial t e x h = grind (arith, tells)
+unused-differs t e x h = grind (arith, tells)
 
-pub fresh-serial : (t : Terms) (e : Reading) (xs : List Reading) → past-serials xs ≤ e .serial → contains t e xs ≡ false
-fresh-serial t e [] h = refl
-fresh-serial t e (x ∷ xs) h =
-    let q = other-serial t e x (omega arith) in
-    let ih = fresh-serial t e xs (omega arith) in
+unused-new : (t : Terms) (e : Reading) (xs : List Reading) → used (e .serial) xs ≡ false → contains t e xs ≡ false
+unused-new t e [] h = refl
+unused-new t e (x ∷ xs) h =
+    let k = or-parts (eqb (x .serial) (e .serial)) (used (e .serial) xs) h in
+    let q = unused-differs t e x (k .0) in
+    let ih = unused-new t e xs (k .1) in
     simp (q, ih)
 
--- The reading at the end of a visit's reach is not too late while the visit is live, and near to it.
-abbrev reaching : Terms → Visit → ℕ → Reading
-reaching t v n = record { card = v .card; time = v .to + gap-of t (v .card); serial = n; amount = 0 }
+-- A reading at a visit's end, or as late as may be after it, is not too late while the visit is live, and near to it.
+abbrev reaching : Terms → ℕ → Visit → ℕ → Reading
+reaching t m v n = record { card = v .card; time = max (v .to) (m - t .lateness); serial = n; amount = 0 }
 
-reaching-timely : (t : Terms) (m : ℕ) (v : Visit) (n : ℕ) → live t m v ≡ true → too-late t m (reaching t v n) ≡ false
-unfolding live expired too-late
-reaching-timely t m v n h = grind (arith, tells)
+reaching-timely : (t : Terms) (m : ℕ) (v : Visit) (n : ℕ) → too-late t m (reaching t m v n) ≡ false
+unfolding too-late
+reaching-timely t m v n = grind (arith, tells)
 
-reaching-near : (t : Terms) (v : Visit) (n : ℕ) → v .from ≤ v .to → near t (single (reaching t v n)) v ≡ true
-unfolding near
-reaching-near t v n h = grind (arith, tells)
+reaching-near : (t : Terms) (m : ℕ) (v : Visit) (n : ℕ) → v .from ≤ v .to → live t m v ≡ true → near t (single (reaching t m v n)) v ≡ true
+unfolding near live expired
+reaching-near t m v n h l = grind (arith, tells)
 
 reading-live : (t : Terms) (s : Store) (e : Reading) → too-late t (s .watermark) e ≡ false → contains t e (s .seen) ≡ false
     → store-step t s (A-reading e) .live ≡ live-only t (s .watermark) (merge-in t (single e) (s .live))
@@ -182,18 +215,26 @@ and-no false = refl
 
 may-change : (t : Terms) (s : Store) → Apart t (s .live) → (v : Visit) → (v .from ≤ v .to) × (live t (s .watermark) v ≡ true) × (some (same-visit t v) (s .live) ≡ true) → May-change t s v
 may-change t s p v h =
-    let e = reaching t v (past-serials (s .seen)) in
-    let a = reaching-timely t (s .watermark) v (past-serials (s .seen)) (h .1) in
-    let b : contains t e (s .seen) ≡ false = fresh-serial t e (s .seen) (omega arith) in
-    let n = reaching-near t v (past-serials (s .seen)) (h .0) in
+    let u = unused-serial (length (s .seen)) (s .seen) (omega arith) in
+    let e : Reading = reaching t (s .watermark) v (u .0) in
+    let a : too-late t (s .watermark) e ≡ false = reaching-timely t (s .watermark) v (u .0) in
+    let b : contains t e (s .seen) ≡ false = unused-new t e (s .seen) (u .2) in
+    let n : near t (single e) v ≡ true = reaching-near t (s .watermark) v (u .0) (h .0) (h .1) in
     let g = near-merge t v (single e) (s .live) p (omega arith) n (h .2) in (
       e,
-      a,
-      b,
-      ap (λ (vs : List Visit). some (same-visit t v) vs) (reading-live t s e a b)
-          ∙ some-kept t (live t (s .watermark)) v (merge-in t (single e) (s .live))
-          ∙ ap (λ (x : Bool). live t (s .watermark) v && x) g
-          ∙ and-no (live t (s .watermark) v),
+      record {
+        card = refl;
+        time = omega arith;
+        serial = u .1;
+        amount = refl;
+        timely = a;
+        unseen = b;
+        changes =
+            ap (λ (vs : List Visit). some (same-visit t v) vs) (reading-live t s e a b)
+            ∙ some-kept t (live t (s .watermark)) v (merge-in t (single e) (s .live))
+            ∙ ap (λ (x : Bool). live t (s .watermark) v && x) g
+            ∙ and-no (live t (s .watermark) v);
+      },
     )
 
 all-both : {X : Type 0} (P Q R : X → Type 0) (xs : List X) → All P xs → All Q xs → All R xs → All (λ x. P x × Q x × R x) xs
@@ -219,5 +260,5 @@ image-needs t k s =
           (apart-order t vs p) (kept-by-passes (live t (k .watermark)) (visits t (k .readings))) (all-in-itself t vs));
     }
 
-pub nothing-in-vain : (t : Terms) (cs : List Command) → Needs-all t (store-after t empty-store cs)
+pub nothing-in-vain : Nothing-in-vain
 nothing-in-vain t cs = subst (λ (s : Store). Needs-all t s) (sym (all-kept t cs)) (image-needs t (after t empty cs) (reference-sorted t cs))

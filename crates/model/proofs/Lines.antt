@@ -1,8 +1,8 @@
 -- The ledger by card and day: its keys rise, and each line has the number and the sum of its visits.
-use mathlib.Core.Path.{_≡_, refl, sym, ap, _∙_, subst}
+use mathlib.Core.Path.{_≡_, refl, ap, _∙_}
 use mathlib.Core.Bool.{Bool, true, false, cond, _&&_}
 use mathlib.Core.List.{List, [], _∷_}
-use Prim.Native.Nat.{ℕ, _+_, _<_, _≤_}
+use Prim.Native.Nat.{ℕ, _+_, _-_, _≤_}
 use native.Mathlib.Omega.{arith}
 use lib.Dec.{eqb}
 use lib.ListN.{length}
@@ -13,9 +13,10 @@ use Rattle.std.proofs.shelf.Ways.{tells}
 use Rattle.visit.specs.declared.Line.{Line}
 use Rattle.visit.specs.declared.Terms.{Terms}
 use Rattle.visit.specs.declared.Visit.{Visit}
-use Rattle.visit.specs.Lines.{day-of, line-before, line-of, line-plus, same-key}
-use Rattle.model.specs.Ledger.{add-line, add-visits, totals}
-use Rattle.model.specs.Unseen.{Lined, entry, lines-for, visits-for}
+use Rattle.visit.specs.Lines.{line-before, line-minus, line-of, line-plus, same-key}
+use Rattle.model.specs.Ledger.{add-line, add-visits, take-line, take-visits, totals}
+use Rattle.model.specs.Store.{booked}
+use Rattle.model.specs.Unseen.{Lined, Totals-right, entry, lines-for, visits-for}
 use Rattle.model.proofs.Order.{split}
 use Rattle.model.proofs.Totals.{key-after, key-through, line-parts, one-visit, plus-before}
 
@@ -52,6 +53,48 @@ lined-line t a (x ∷ xs) h p =
 pub lined-visits : (t : Terms) (vs : List Visit) (ls : List Line) → Lined t ls → Lined t (add-visits t vs ls)
 lined-visits t [] ls p = p
 lined-visits t (v ∷ vs) ls p = lined-visits t vs (add-line t (line-of t v) ls) (lined-line t (line-of t v) ls (one-visit t v) p)
+
+single-line : (t : Terms) (v : Visit) → line-of t v .visits ≡ 1
+unfolding line-of
+single-line t v = refl
+
+-- Taking a visit's line keeps it in order too, and so does the whole of what a command does to a ledger.
+minus-before : (t : Terms) (x a y : Line) → line-before t x y ≡ true → line-before t (line-minus x a) y ≡ true
+unfolding line-before
+minus-before t x a y h = h
+
+before-minus : (t : Terms) (l x a : Line) → line-before t l x ≡ true → line-before t l (line-minus x a) ≡ true
+unfolding line-before
+before-minus t l x a h = h
+
+before-take : (t : Terms) (l a : Line) (xs : List Line) → All (λ x. line-before t l x ≡ true) xs → All (λ x. line-before t l x ≡ true) (take-line t a xs)
+before-take t l a [] b = tt
+before-take t l a (x ∷ xs) b =
+    let ih = before-take t l a xs (b .1) in
+    split (same-key t x a)
+    (λ k. split (eqb (x .visits) (a .visits)) (λ e. simp (k, e) (b .1)) (λ e. simp (k, e) (before-minus t l x a (b .0), b .1)))
+    (λ k. simp k (b .0, ih))
+
+visits-left : (n m : ℕ) → 1 ≤ n → m ≡ 1 → eqb n m ≡ false → 1 ≤ n - m
+visits-left n m h o e = grind (arith, tells)
+
+pub lined-take : (t : Terms) (a : Line) (ls : List Line) → a .visits ≡ 1 → Lined t ls → Lined t (take-line t a ls)
+lined-take t a [] h p = tt
+lined-take t a (x ∷ xs) h p =
+    let ih = lined-take t a xs h (p .2) in
+    split (same-key t x a)
+    (λ k. split (eqb (x .visits) (a .visits))
+    (λ e. simp (k, e) (p .2))
+    (λ e. simp (k, e)
+    (visits-left (x .visits) (a .visits) (p .0) h e, all-weaker (λ y. line-before t x y ≡ true) (λ y. line-before t (line-minus x a) y ≡ true) (minus-before t x a) xs (p .1), p .2)))
+    (λ k. simp k (p .0, before-take t x a xs (p .1), ih))
+
+pub lined-take-visits : (t : Terms) (vs : List Visit) (ls : List Line) → Lined t ls → Lined t (take-visits t vs ls)
+lined-take-visits t [] ls p = p
+lined-take-visits t (v ∷ vs) ls p = lined-take-visits t vs (take-line t (line-of t v) ls) (lined-take t (line-of t v) ls (single-line t v) p)
+
+pub lined-booked : (t : Terms) (gone new : List Visit) (ls : List Line) → Lined t ls → Lined t (booked t gone new ls)
+lined-booked t gone new ls p = lined-visits t new (take-visits t gone ls) (lined-take-visits t gone ls p)
 
 -- A line that is added adds its number of visits, or its sum, to what the lines of its key have.
 abbrev has-key : ℕ → ℕ → Line → Bool
@@ -93,10 +136,6 @@ sum-visits t card day f h (v ∷ vs) ls =
 key-of-visit : (t : Terms) (card day : ℕ) (vs : List Visit) → kept-by (λ v. has-key card day (line-of t v)) vs ≡ visits-for t card day vs
 unfolding line-of
 key-of-visit t card day vs = refl
-
-single-line : (t : Terms) (v : Visit) → line-of t v .visits ≡ 1
-unfolding line-of
-single-line t v = refl
 
 visits-of-lines : (t : Terms) (vs : List Visit) → sumBy (λ v. line-of t v .visits) vs ≡ length vs
 visits-of-lines t [] = refl
@@ -152,9 +191,7 @@ sums-right t card day vs =
     let c = ap (λ (ws : List Visit). sumBy (λ v. v .sum) ws) (key-of-visit t card day vs) in
     a ∙ omega arith
 
-pub totals-right : (t : Terms) (vs : List Visit)
-    → Lined t (totals t vs)
-    × ((card day : ℕ) → lines-for card day (totals t vs) ≡ entry card day (length (visits-for t card day vs)) (sumBy (λ v. v .sum) (visits-for t card day vs)))
+pub totals-right : Totals-right
 totals-right t vs = (
   lined-visits t vs [] tt,
   λ card day.

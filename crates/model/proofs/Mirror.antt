@@ -1,10 +1,12 @@
 -- The store stands for the reference: at each command the same outcome, and after it the same again.
 use mathlib.Core.Path.{_≡_, refl, sym, ap, _∙_, subst}
-use mathlib.Core.Bool.{Bool, true, false, cond, not}
+use mathlib.Core.Bool.{false}
 use mathlib.Core.List.{List, [], _∷_}
-use Prim.Native.Nat.{ℕ, _+_, _<_, _≤_}
+use Prim.Native.Nat.{ℕ, _≤_}
 use native.Mathlib.Omega.{arith}
 use lib.Dec.{ltb}
+use Rattle.std.specs.declared.option.Option.{Option}
+use Rattle.std.specs.declared.option.Option.the-variants.{Some, None}
 use Rattle.std.specs.declared.result.Result.{Result}
 use Rattle.std.specs.declared.result.Result.the-variants.{Ok, Err}
 use Rattle.std.proofs.shelf.Tests.{ltb-false}
@@ -17,13 +19,14 @@ use Rattle.visit.specs.Visits.{closed, live, same-visit, single}
 use Rattle.command.specs.declared.Command.{Command}
 use Rattle.command.specs.declared.Command.the-variants.{Reading as A-reading, Watermark}
 use Rattle.command.specs.declared.Refusal.{Refusal}
-use Rattle.command.specs.Outcomes.{Outcome, changed, refused}
-use Rattle.model.specs.Ledger.{totals}
-use Rattle.model.specs.Reference.{Reference, after, closed-of, empty, ledger-of, outcome, outcome-by, outcomes, plan, state-by, step}
+use Rattle.command.specs.Bounds.{command-fault, terms-fault}
+use Rattle.command.specs.Outcomes.{Outcome}
+use Rattle.model.specs.Reference.{Reference, after, bounded-after, bounded-outcomes, bounded-plan, closed-of, empty, ledger-of, or-fault, outcome, outcome-by, outcomes, plan, state-by, step}
 use Rattle.model.specs.Sessions.{changes, closed-visits, contains, difference, insert-reading, some, visits}
 use Rattle.model.specs.Store.{Draft, Store, booked, closed-after, closed-before, draft, empty-store, finish, kept-only, live-only, merge-in, store-after, store-by, store-outcome, store-outcome-by, store-outcomes, store-step}
+use Rattle.model.specs.Unseen.{Bounded-unseen, Forgetting-unseen, bounded-draft, bounded-store-after, bounded-store-outcomes}
 use Rattle.model.proofs.Merge.{insert-merges}
-use Rattle.model.proofs.Order.{Apart, Sorted-readings, insert-sorted, split, visits-apart}
+use Rattle.model.proofs.Order.{Sorted-readings, insert-sorted, split, visits-apart}
 use Rattle.model.proofs.Expiry.{contains-kept, dead-closed, dead-merge, difference-live, insert-kept, kept-only-twice, live-merge, live-twice, timely-live, timely-reaches}
 use Rattle.model.proofs.Totals.{apart-kept, booked-right}
 
@@ -193,8 +196,74 @@ after-mirror t k s [] = refl
 after-mirror t k s (c ∷ cs) =
     ap (λ (x : Store). store-after t x cs) (step-mirror t k s c) ∙ after-mirror t (step t k c) (step-sorted t k s c) cs
 
-pub all-outcomes : (t : Terms) (cs : List Command) → store-outcomes t empty-store cs ≡ outcomes t empty cs
-all-outcomes t cs = outcomes-mirror t empty tt cs
-
 pub all-kept : (t : Terms) (cs : List Command) → store-after t empty-store cs ≡ image t (after t empty cs)
 all-kept t cs = after-mirror t empty tt cs
+
+-- A command that may be refused beforehand for any reason: the same, and nothing changes if it is.
+pub outcome-guarded : (t : Terms) (k : Reference) → Sorted-readings t (k .readings) → (c : Command) (o : Option Refusal)
+    → store-outcome-by t (image t k) (or-fault o (draft t (image t k) c)) ≡ outcome-by t k (or-fault o (plan t k c))
+outcome-guarded t k s c None = outcome-mirror t k s c
+outcome-guarded t k s c (Some r) = refl
+
+pub step-guarded : (t : Terms) (k : Reference) → Sorted-readings t (k .readings) → (c : Command) (o : Option Refusal)
+    → store-by t (image t k) (or-fault o (draft t (image t k) c)) ≡ image t (state-by k (or-fault o (plan t k c)))
+step-guarded t k s c None = step-mirror t k s c
+step-guarded t k s c (Some r) = refl
+
+pub sorted-guarded : (t : Terms) (k : Reference) → Sorted-readings t (k .readings) → (c : Command) (o : Option Refusal)
+    → Sorted-readings t (state-by k (or-fault o (plan t k c)) .readings)
+sorted-guarded t k s c None = step-sorted t k s c
+sorted-guarded t k s c (Some r) = s
+
+-- Two reasons, one before the other, are one.
+first-fault : Option Refusal → Option Refusal → Option Refusal
+first-fault None q = q
+first-fault (Some r) q = Some r
+
+faults-once : {X : Type 0} (o q : Option Refusal) (p : Result X Refusal) → or-fault o (or-fault q p) ≡ or-fault (first-fault o q) p
+unfolding first-fault
+faults-once None q p = refl
+faults-once (Some r) q p = refl
+
+module _ (t : Terms) (k : Reference) (s : Sorted-readings t (k .readings)) (c : Command) where
+  drafts-once : bounded-draft t (image t k) c ≡ or-fault (first-fault (terms-fault t) (command-fault c)) (draft t (image t k) c)
+  drafts-once = faults-once (terms-fault t) (command-fault c) (draft t (image t k) c)
+
+  plans-once : bounded-plan t k c ≡ or-fault (first-fault (terms-fault t) (command-fault c)) (plan t k c)
+  plans-once = faults-once (terms-fault t) (command-fault c) (plan t k c)
+
+  outcome-bounded : store-outcome-by t (image t k) (bounded-draft t (image t k) c) ≡ outcome-by t k (bounded-plan t k c)
+  outcome-bounded =
+      ap (λ (d : Result Draft Refusal). store-outcome-by t (image t k) d) drafts-once
+      ∙ outcome-guarded t k s c (first-fault (terms-fault t) (command-fault c))
+      ∙ sym (ap (λ (p : Result Reference Refusal). outcome-by t k p) plans-once)
+
+  step-bounded : store-by t (image t k) (bounded-draft t (image t k) c) ≡ image t (state-by k (bounded-plan t k c))
+  step-bounded =
+      ap (λ (d : Result Draft Refusal). store-by t (image t k) d) drafts-once
+      ∙ step-guarded t k s c (first-fault (terms-fault t) (command-fault c))
+      ∙ sym (ap (λ (p : Result Reference Refusal). image t (state-by k p)) plans-once)
+
+  sorted-bounded : Sorted-readings t (state-by k (bounded-plan t k c) .readings)
+  sorted-bounded =
+      subst (λ (p : Result Reference Refusal). Sorted-readings t (state-by k p .readings)) (sym plans-once) (sorted-guarded t k s c (first-fault (terms-fault t) (command-fault c)))
+
+-- A whole list of commands, with the bounds.
+pub outcomes-bounded : (t : Terms) (k : Reference) → Sorted-readings t (k .readings) → (cs : List Command) → bounded-store-outcomes t (image t k) cs ≡ bounded-outcomes t k cs
+outcomes-bounded t k s [] = refl
+outcomes-bounded t k s (c ∷ cs) =
+    ap (λ (x : Outcome). x ∷ bounded-store-outcomes t (store-by t (image t k) (bounded-draft t (image t k) c)) cs) (outcome-bounded t k s c)
+    ∙ ap (λ (x : Store). outcome-by t k (bounded-plan t k c) ∷ bounded-store-outcomes t x cs) (step-bounded t k s c)
+    ∙ ap (λ (xs : List Outcome). outcome-by t k (bounded-plan t k c) ∷ xs) (outcomes-bounded t (state-by k (bounded-plan t k c)) (sorted-bounded t k s c) cs)
+
+pub after-bounded : (t : Terms) (k : Reference) → Sorted-readings t (k .readings) → (cs : List Command) → bounded-store-after t (image t k) cs ≡ image t (bounded-after t k cs)
+after-bounded t k s [] = refl
+after-bounded t k s (c ∷ cs) =
+    ap (λ (x : Store). bounded-store-after t x cs) (step-bounded t k s c) ∙ after-bounded t (state-by k (bounded-plan t k c)) (sorted-bounded t k s c) cs
+
+-- The theorems: from the empty store on.
+pub forgetting-unseen : Forgetting-unseen
+forgetting-unseen t cs = (outcomes-mirror t empty tt cs, ap (λ (s : Store). s .ledger) (after-mirror t empty tt cs))
+
+pub bounded-unseen : Bounded-unseen
+bounded-unseen t cs = (outcomes-bounded t empty tt cs, ap (λ (s : Store). s .ledger) (after-bounded t empty tt cs))

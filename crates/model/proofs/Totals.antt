@@ -1,8 +1,8 @@
 -- The ledger: the order in which visits are put to it does not matter, and taking undoes adding.
 use mathlib.Core.Path.{_≡_, refl, sym, ap, _∙_, subst}
-use mathlib.Core.Bool.{Bool, true, false, cond, not, _&&_, _||_}
+use mathlib.Core.Bool.{Bool, true, false, not, _||_}
 use mathlib.Core.List.{List, [], _∷_}
-use Prim.Native.Nat.{ℕ, _+_, _-_, _<_, _≤_}
+use Prim.Native.Nat.{ℕ, _+_, _-_, _≤_}
 use native.Mathlib.Omega.{arith}
 use lib.Dec.{eqb}
 use Rattle.std.specs.shelf.Lists.{All, kept-by}
@@ -13,13 +13,12 @@ use Rattle.visit.specs.declared.Line.{Line}
 use Rattle.visit.specs.declared.Terms.{Terms}
 use Rattle.visit.specs.declared.Visit.{Visit}
 use Rattle.visit.specs.Lines.{line-before, line-minus, line-of, line-plus, same-key}
-use Rattle.visit.specs.Readings.{gap-of}
 use Rattle.visit.specs.Visits.{same-visit}
 use Rattle.model.specs.Ledger.{add-line, add-visits, take-line, take-visits, totals}
 use Rattle.model.specs.Sessions.{difference, some}
 use Rattle.model.specs.Store.{booked}
 use Rattle.model.proofs.Order.{Apart, Follows, split}
-use Rattle.model.proofs.Expiry.{kept-alike, same-itself, same-visits}
+use Rattle.model.proofs.Expiry.{same-visits}
 
 -- The order of keys.
 pub key-after : (t : Terms) (a b : Line) → line-before t a b ≡ false → same-key t a b ≡ false → line-before t b a ≡ true

@@ -2,7 +2,7 @@
 use mathlib.Core.Path.{_≡_}
 use mathlib.Core.Bool.{Bool, false, not}
 use mathlib.Core.List.{List}
-use Prim.Native.Nat.{ℕ, _+_, _≤_}
+use Prim.Native.Nat.{ℕ, _+_, _≤_, max}
 use lib.Dec.{ltb}
 use lib.ListN.{length}
 use Rattle.std.specs.shelf.Lists.{All, kept-by}
@@ -33,11 +33,19 @@ pub record Holds (t : Terms) (s : Store) (k : Reference) : Type 0 where
 abbrev pub Little-kept : Type 0
 Little-kept = (t : Terms) (cs : List Command) → Holds t (store-after t empty-store cs) (after t empty cs)
 
--- A live visit may still change: after some reading that is neither too late nor a duplicate it is not there any more.
+-- A reading changes a visit: it is neither too late nor a duplicate, and after it the visit is not there any more.
+-- Its numbers are not beyond those at hand: the visit's card, a time up to its last or the watermark, a serial up to the number of kept readings.
+pub record Changes-visit (t : Terms) (s : Store) (v : Visit) (e : Reading) : Type 0 where
+  pub card : e .card ≡ v .card
+  pub time : e .time ≤ max (v .to) (s .watermark)
+  pub serial : e .serial ≤ length (s .seen)
+  pub amount : e .amount ≡ 0
+  pub timely : too-late t (s .watermark) e ≡ false
+  pub unseen : contains t e (s .seen) ≡ false
+  pub changes : some (same-visit t v) (store-step t s (A-reading e) .live) ≡ false
+
 abbrev pub May-change : Terms → Store → Visit → Type 0
-May-change t s v =
-    (e : Reading)
-    × (too-late t (s .watermark) e ≡ false) × (contains t e (s .seen) ≡ false) × (some (same-visit t v) (store-step t s (A-reading e) .live) ≡ false)
+May-change t s v = (e : Reading) × Changes-visit t s v e
 
 -- Each kept reading, coming again, is refused as a duplicate; each live visit may still change.
 pub record Needs-all (t : Terms) (s : Store) : Type 0 where

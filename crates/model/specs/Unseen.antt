@@ -1,25 +1,47 @@
 -- That forgetting is unseen: what is promised of the store that forgets, against the reference that forgets nothing.
 use mathlib.Core.Path.{_≡_}
-use mathlib.Core.Bool.{Bool, cond, true, _&&_}
+use mathlib.Core.Bool.{cond, true, _&&_}
 use mathlib.Core.List.{List, [], _∷_}
 use Prim.Native.Nat.{ℕ, _≤_}
 use lib.Dec.{eqb}
 use lib.ListN.{length}
 use Rattle.std.specs.shelf.Lists.{All, kept-by, sumBy}
+use Rattle.std.specs.declared.result.Result.{Result}
 use Rattle.visit.specs.declared.Line.{Line}
 use Rattle.visit.specs.declared.Terms.{Terms}
 use Rattle.visit.specs.declared.Visit.{Visit}
 use Rattle.visit.specs.Lines.{day-of, line-before}
 use Rattle.command.specs.declared.Command.{Command}
+use Rattle.command.specs.declared.Refusal.{Refusal}
+use Rattle.command.specs.Bounds.{command-fault, terms-fault}
+use Rattle.command.specs.Outcomes.{Outcome}
 use Rattle.model.specs.Ledger.{totals}
-use Rattle.model.specs.Reference.{after, empty, ledger-of, outcomes}
-use Rattle.model.specs.Store.{empty-store, store-after, store-outcomes}
+use Rattle.model.specs.Reference.{after, bounded-after, bounded-outcomes, empty, ledger-of, or-fault, outcomes}
+use Rattle.model.specs.Store.{Draft, Store, draft, empty-store, store-after, store-by, store-outcome-by, store-outcomes}
 
 -- On any commands the store gives the outcomes of the reference, and its ledger is the ledger of all closed visits.
 abbrev pub Forgetting-unseen : Type 0
 Forgetting-unseen =
     (t : Terms) (cs : List Command)
     → (store-outcomes t empty-store cs ≡ outcomes t empty cs) × (store-after t empty-store cs .ledger ≡ ledger-of t (after t empty cs))
+
+-- The store with the bounds of numbers, as the reference has them: terms out of bounds are refused first, then a command out of bounds.
+abbrev pub bounded-draft : Terms → Store → Command → Result Draft Refusal
+bounded-draft t s c = or-fault (terms-fault t) (or-fault (command-fault c) (draft t s c))
+
+abbrev pub bounded-store-outcomes : Terms → Store → List Command → List Outcome
+bounded-store-outcomes t s [] = []
+bounded-store-outcomes t s (c ∷ cs) = store-outcome-by t s (bounded-draft t s c) ∷ bounded-store-outcomes t (store-by t s (bounded-draft t s c)) cs
+
+abbrev pub bounded-store-after : Terms → Store → List Command → Store
+bounded-store-after t s [] = s
+bounded-store-after t s (c ∷ cs) = bounded-store-after t (store-by t s (bounded-draft t s c)) cs
+
+-- So it is with the bounds too.
+abbrev pub Bounded-unseen : Type 0
+Bounded-unseen =
+    (t : Terms) (cs : List Command)
+    → (bounded-store-outcomes t empty-store cs ≡ bounded-outcomes t empty cs) × (bounded-store-after t empty-store cs .ledger ≡ ledger-of t (bounded-after t empty cs))
 
 -- The keys of a ledger rise, and every line has visits.
 abbrev pub Lined : Terms → List Line → Type 0
