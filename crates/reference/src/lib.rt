@@ -1,9 +1,9 @@
 // The reference: keeps every reading in a Vec and works everything out anew at each command.
-pub mod ledger;
-pub mod order;
-pub mod readings;
-pub mod state;
-pub mod visits;
+mod ledger;
+mod order;
+mod readings;
+mod state;
+mod visits;
 
 ghost use Rattle.command.specs.Outcomes.{outcome-of};
 ghost use Rattle.command.specs.declared.Command.the-variants.{Reading as A-reading, Watermark};
@@ -33,10 +33,10 @@ use visits::difference;
 use visits::passing;
 
 // Beyond this many readings a sum might not fit in 64 bits.
-pub const MOST_READINGS: usize = (1 << 32) - 1;
+const MOST_READINGS: usize = (1 << 32) - 1;
 
 // What was closed before and is not now, and the reverse.
-pub fn changes(
+fn changes(
     heap: Global,
     terms: Terms,
     before: &[Visit],
