@@ -19,8 +19,8 @@ use Rattle.command.specs.declared.Command.the-variants.{Reading as A-reading, W
 use Rattle.model.specs.Cards.{Cards-apart, of-cards}
 use Rattle.model.specs.Reference.{Reference, after, closed-of, empty, step}
 use Rattle.model.specs.Sessions.{contains, insert-reading, prepend, visits}
-use Rattle.model.proofs.Order.{Apart, Follows, Not-after, Sorted-readings, after-sorted, before-before, reference-sorted, sorted-not-after, split, visits-apart}
-use Rattle.model.proofs.Same.{kept-commute}
+use Rattle.model.proofs.Common.{kept-commute, split}
+use Rattle.model.proofs.Order.{Apart, Follows, Not-after, Sorted-readings, before-before, reference-sorted, sorted-not-after, step-sorted, visits-apart}
 
 -- The readings, the visits and the state of some cards.
 abbrev pub readings-by : (ℕ → Bool) → List Reading → List Reading
@@ -143,7 +143,7 @@ pub after-part : (t : Terms) (p : ℕ → Bool) (k : Reference) (cs : List Comma
     → part-by p (after t k cs) ≡ after t (part-by p k) (kept-by (of-cards p) cs)
 after-part t p k [] s = refl
 after-part t p k (c ∷ cs) s =
-    let ih = after-part t p (step t k c) cs (after-sorted t k (c ∷ []) s) in
+    let ih = after-part t p (step t k c) cs (step-sorted t k c s) in
     split (of-cards p c)
     (λ o. simp o (ih ∙ ap (λ (l : Reference). after t l (kept-by (of-cards p) cs)) (sym (step-by t p k c s o))))
     (λ o. simp o (ih ∙ ap (λ (l : Reference). after t l (kept-by (of-cards p) cs)) (step-other t p k c o)))

@@ -17,8 +17,9 @@ use Rattle.visit.specs.Visits.{grown, joins, single, visit-before}
 use Rattle.model.specs.Reference.{after, empty}
 use Rattle.model.specs.Right.{Goes-on, Right-visit, Unbroken, Visits-right, of-visit, readings-of}
 use Rattle.model.specs.Sessions.{prepend, visits}
-use Rattle.model.proofs.Order.{Apart, Follows, Not-after, Sorted-readings, reference-sorted, sorted-not-after, split, visits-apart}
-use Rattle.model.proofs.Same.{kept-agree, kept-none, rising-at}
+use Rattle.model.proofs.Common.{kept-agree, kept-none, split}
+use Rattle.model.proofs.Order.{Apart, Follows, Not-after, Sorted-readings, reference-sorted, sorted-not-after, visits-apart}
+use Rattle.model.proofs.Same.{rising-at}
 use Rattle.model.proofs.Adding.{apart-rising}
 use Rattle.model.proofs.Cards.{joined-card}
 

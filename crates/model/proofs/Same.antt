@@ -16,7 +16,8 @@ use Rattle.visit.specs.Readings.{reading-before}
 use Rattle.model.specs.Order.{Any-order}
 use Rattle.model.specs.Reference.{Reference, after, closed-of, empty}
 use Rattle.model.specs.Sessions.{some}
-use Rattle.model.proofs.Order.{Sorted-readings, reference-sorted, split}
+use Rattle.model.proofs.Common.{split}
+use Rattle.model.proofs.Order.{Sorted-readings, reference-sorted}
 
 -- Each element comes before all that follow it.
 abbrev pub Rising-by : {X : Type 0} → (X → X → Bool) → List X → Type 0
@@ -57,21 +58,6 @@ rising-kept before p (x ∷ xs) r =
     split (p x)
     (λ o. simp o (all-kept-by p (λ y. before x y ≡ true) xs (r .0), rising-kept before p xs (r .1)))
     (λ o. simp o (rising-kept before p xs (r .1)))
-
--- Two filters, in either order, and two that agree on every element.
-pub kept-commute : {X : Type 0} (p q : X → Bool) (xs : List X) → kept-by p (kept-by q xs) ≡ kept-by q (kept-by p xs)
-kept-commute p q [] = refl
-kept-commute p q (x ∷ xs) =
-    let ih = kept-commute p q xs in
-    split (p x) (λ o. split (q x) (λ s. simp (o, s, ih)) (λ s. simp (o, s, ih))) (λ o. split (q x) (λ s. simp (o, s, ih)) (λ s. simp (o, s, ih)))
-
-pub kept-agree : {X : Type 0} (p q : X → Bool) (xs : List X) → All (λ x. p x ≡ q x) xs → kept-by p xs ≡ kept-by q xs
-kept-agree p q [] a = refl
-kept-agree p q (x ∷ xs) a = let ih = kept-agree p q xs (a .1) in let h = a .0 in simp (h, ih)
-
-pub kept-none : {X : Type 0} (p : X → Bool) (xs : List X) → All (λ x. p x ≡ false) xs → kept-by p xs ≡ []
-kept-none p [] a = refl
-kept-none p (x ∷ xs) a = let h = a .0 in simp h (kept-none p xs (a .1))
 
 -- Two lists that rise and have the same members are one.
 either-same : {X : Type 0} (before : X → X → Bool) (strict : (x y : X) → before x y ≡ true → before y x ≡ true → ⊥) (x y : X) (xs ys : List X)
