@@ -2,7 +2,7 @@
 use mathlib.Core.Path.{_≡_, refl, sym, ap, _∙_}
 use mathlib.Core.Bool.{Bool, true, false}
 use mathlib.Core.List.{List, [], _∷_}
-use Prim.Native.Nat.{ℕ, _<_}
+use Prim.Native.Nat.{ℕ}
 use native.Mathlib.Omega.{arith}
 use lib.Dec.{ltb}
 use Rattle.std.specs.shelf.Lists.{All, kept-by}
@@ -51,7 +51,7 @@ contains-by t p e (x ∷ xs) h =
 -- A reading that no reading is before goes to the front.
 insert-front : (t : Terms) (e : Reading) (xs : List Reading) → All (λ x. reading-before t x e ≡ false) xs → insert-reading t e xs ≡ e ∷ xs
 insert-front t e [] a = refl
-insert-front t e (x ∷ xs) a = let h = a .0 in simp h
+insert-front t e (x ∷ xs) a = simp (a .0)
 
 not-before : (t : Terms) (e x : Reading) → reading-before t x e ≡ false → (y : Reading) → reading-before t x y ≡ true → reading-before t y e ≡ false
 not-before t e x h y b = split (reading-before t y e) (λ o. absurd (both-ways (reading-before t x e) h (before-before t x y e b o))) (λ o. o)
@@ -83,11 +83,11 @@ joined-card t e v h = grind (arith, tells)
 
 other-joins : (t : Terms) (e : Reading) (v : Visit) → Not-after e v → (e .card ≡ v .card → ⊥) → (w : Visit) → Follows t v w → joins t e w ≡ false
 unfolding joins
-other-joins t e v n h w f = let l : e .card < w .card = omega arith in grind (arith, tells)
+other-joins t e v n h w f = grind (arith, tells)
 
 prepend-alone : (t : Terms) (e : Reading) (vs : List Visit) → All (λ v. joins t e v ≡ false) vs → prepend t e vs ≡ single e ∷ vs
 prepend-alone t e [] a = refl
-prepend-alone t e (v ∷ vs) a = let h = a .0 in simp h
+prepend-alone t e (v ∷ vs) a = simp (a .0)
 
 prepend-by : (t : Terms) (p : ℕ → Bool) (e : Reading) (vs : List Visit) → All (Not-after e) vs → Apart t vs → p (e .card) ≡ true
     → visits-by p (prepend t e vs) ≡ prepend t e (visits-by p vs)

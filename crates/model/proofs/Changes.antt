@@ -16,8 +16,7 @@ use Rattle.visit.specs.declared.Visit.{Visit}
 use Rattle.visit.specs.Readings.{too-late}
 use Rattle.visit.specs.Visits.{closed, merged, near, same-visit, single}
 use Rattle.command.specs.declared.Command.the-variants.{Reading as A-reading}
-use Rattle.command.specs.declared.Refusal.the-variants.{TooLate, Duplicate, Backwards}
-use Rattle.command.specs.Outcomes.{changed, refused}
+use Rattle.command.specs.Outcomes.{changed}
 use Rattle.model.specs.Few.{Few-changes, On-time, Only-what-is-met, Watermark-adds, became, merged-with, met, near-ones}
 use Rattle.model.specs.Reference.{Reference, after, closed-of, empty, outcome}
 use Rattle.model.specs.Sessions.{changes, closed-visits, contains, difference, insert-reading, some, visits}
@@ -152,9 +151,9 @@ taken-in : (t : Terms) (k : Reference) (e : Reading) (gone new : List Visit) →
     → changes t (closed-of t k) (closed-visits t (k .watermark) (visits t (insert-reading t e (k .readings)))) ≡ changed gone new
 taken-in t k e gone new h =
     split (too-late t (k .watermark) e)
-    (λ o. let r : refused (TooLate (e .time)) ≡ changed gone new = simp o at h in cc)
+    (λ o. cc)
     (λ o. split (contains t e (k .readings))
-    (λ q. let r : refused (Duplicate (e .time)) ≡ changed gone new = simp (o, q) at h in cc)
+    (λ q. cc)
     (λ q. simp (o, q) at h))
 
 pub only-what-is-met : Only-what-is-met
@@ -221,5 +220,5 @@ risen t k m gone new h r =
 pub watermark-adds : Watermark-adds
 watermark-adds t k m gone new h =
     split (ltb m (k .watermark))
-    (λ o. let r : refused (Backwards m) ≡ changed gone new = simp o at h in cc)
+    (λ o. cc)
     (λ o. risen t k m gone new (ltb-false m (k .watermark) o) (simp o at h))

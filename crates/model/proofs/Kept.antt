@@ -9,7 +9,7 @@ use lib.ListN.{length}
 use Rattle.std.specs.shelf.Lists.{All, kept-by}
 use Rattle.std.proofs.shelf.Elements.{all-weaker, kept-by-passes}
 use Rattle.std.proofs.shelf.Lists.{nil-from-length}
-use Rattle.std.proofs.shelf.Tests.{or-parts, or-right}
+use Rattle.std.proofs.shelf.Tests.{both-ways, or-parts, or-right}
 use Rattle.std.proofs.shelf.Ways.{tells}
 use Rattle.visit.specs.declared.Reading.{Reading}
 use Rattle.visit.specs.declared.Terms.{Terms}
@@ -93,18 +93,14 @@ refused-again t s e h = let a = h .0 in let b = h .1 in simp (a, b)
 
 -- A visit that is near to one that is merged in is there no more: what is made has more readings.
 outgrown-merge : (t : Terms) (v u : Visit) (ws : List Visit) → v .count < u .count → some (same-visit t v) ws ≡ false → some (same-visit t v) (merge-in t u ws) ≡ false
-outgrown-merge t v u [] h n = let q = fewer-differs t u v h .0 in simp q
+outgrown-merge t v u [] h n = simp (fewer-differs t u v h .0)
 outgrown-merge t v u (w ∷ ws) h n =
-    let q = fewer-differs t u v h .0 in
-    split (same-visit t v w)
-    (λ s. absurd (let z : some (same-visit t v) (w ∷ ws) ≡ true = simp s in let y : _≡_ {A = ℕ} 0 1 = cc (z, n) in omega arith))
-    (λ s.
-    let n′ : some (same-visit t v) ws ≡ false = sym (ap (λ (b : Bool). b || some (same-visit t v) ws) s) ∙ n in
+    let d = or-parts (same-visit t v w) (some (same-visit t v) ws) n in
     split (near t u w)
-    (λ o. let k : v .count < merged u w .count = omega arith in let ih = outgrown-merge t v (merged u w) ws k n′ in simp (o, ih))
+    (λ o. simp (o, outgrown-merge t v (merged u w) ws (omega arith) (d .1)))
     (λ o. split (visit-before t w u)
-    (λ b. let ih = outgrown-merge t v u ws h n′ in simp (o, b, s, ih))
-    (λ b. simp (o, b, q, s, n′))))
+    (λ b. simp (o, b, d .0, outgrown-merge t v u ws h (d .1)))
+    (λ b. simp (o, b, fewer-differs t u v h .0, d .0, d .1)))
 
 wider-near : (t : Terms) (u w v : Visit) → near t u w ≡ true → near t u v ≡ true → near t (merged u w) v ≡ true
 unfolding near
@@ -116,7 +112,7 @@ near-stop t u w v h n b f = grind (arith, tells)
 
 pub near-merge : (t : Terms) (v u : Visit) (ws : List Visit) → Apart t ws → 1 ≤ u .count → near t u v ≡ true → some (same-visit t v) ws ≡ true
     → some (same-visit t v) (merge-in t u ws) ≡ false
-near-merge t v u [] p h n i = absurd (let z : _≡_ {A = ℕ} 0 1 = cc i in omega arith)
+near-merge t v u [] p h n i = absurd (both-ways false refl i)
 near-merge t v u (w ∷ ws) p h n i =
     split (same-visit t v w)
     (λ s.
@@ -136,7 +132,7 @@ near-merge t v u (w ∷ ws) p h n i =
     simp (o, ih))
     (λ o. split (visit-before t w u)
     (λ b. let ih = near-merge t v u ws (p .2) h n j in simp (o, b, s, ih))
-    (λ b. absurd (let f = near-stop t u w v (p .0) o b (all-some t (Follows t w) v ws (p .1) j) in let z : _≡_ {A = ℕ} 0 1 = cc (f, n) in omega arith))))
+    (λ b. absurd (both-ways (near t u v) (near-stop t u w v (p .0) o b (all-some t (Follows t w) v ws (p .1) j)) n))))
 
 -- Of readings that are n at most, some serial up to n is not used.
 abbrev used : ℕ → List Reading → Bool
@@ -146,7 +142,7 @@ abbrev without : ℕ → List Reading → List Reading
 without n xs = kept-by (λ x. not (eqb (x .serial) n)) xs
 
 without-shorter : (n : ℕ) (xs : List Reading) → used n xs ≡ true → length (without n xs) < length xs
-without-shorter n [] h = absurd (let z : _≡_ {A = ℕ} 0 1 = cc h in omega arith)
+without-shorter n [] h = absurd (both-ways false refl h)
 without-shorter n (x ∷ xs) h =
     split (eqb (x .serial) n)
     (λ o. let k = kept-shorter (λ y. not (eqb (y .serial) n)) xs in simp o (omega arith))
@@ -165,7 +161,6 @@ unused-serial (suc n) xs h =
     (λ o.
     let l = without-shorter (suc n) xs o in
     let ih = unused-serial n (without (suc n) xs) (omega arith) in
-    let le = ih .1 in
     (ih .0, omega arith, sym (unused-without (suc n) (ih .0) xs (omega arith)) ∙ ih .2))
     (λ o. (suc n, omega arith, o))
 
@@ -177,9 +172,7 @@ unused-new : (t : Terms) (e : Reading) (xs : List Reading) → used (e .serial) 
 unused-new t e [] h = refl
 unused-new t e (x ∷ xs) h =
     let k = or-parts (eqb (x .serial) (e .serial)) (used (e .serial) xs) h in
-    let q = unused-differs t e x (k .0) in
-    let ih = unused-new t e xs (k .1) in
-    simp (q, ih)
+    simp (unused-differs t e x (k .0), unused-new t e xs (k .1))
 
 -- A reading at a visit's end, or as late as may be after it, is not too late while the visit is live, and near to it.
 abbrev reaching : Terms → ℕ → Visit → ℕ → Reading

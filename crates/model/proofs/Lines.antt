@@ -37,7 +37,6 @@ pub lined-line : (t : Terms) (a : Line) (ls : List Line) → 1 ≤ a .visits →
 lined-line t a [] h p = (h, tt, tt)
 lined-line t a (x ∷ xs) h p =
     let ih = lined-line t a xs h (p .2) in
-    let p0 = p .0 in
     split (line-before t x a)
     (λ o. simp o (p .0, before-line t x a xs o (p .1), ih))
     (λ o. split (same-key t x a)

@@ -35,7 +35,7 @@ pub has-here : {X : Type 0} (x : X) (xs : List X) → Has (x ∷ xs) x
 has-here x xs = (0, omega arith, λ d. refl)
 
 pub has-there : {X : Type 0} (x : X) (xs : List X) (z : X) → Has xs z → Has (x ∷ xs) z
-has-there x xs z h = let l = h .1 in (suc (h .0), omega arith, λ d. h .2 d)
+has-there x xs z h = (suc (h .0), omega arith, λ d. h .2 d)
 
 has-cases-at : {X : Type 0} (x : X) (xs : List X) (z : X) (k : ℕ) → k < length (x ∷ xs) → At (λ y. y ≡ z) (x ∷ xs) k → (x ≡ z) ⊎ Has xs z
 has-cases-at x xs z zero l e = inl (e z)
@@ -45,7 +45,7 @@ pub has-cases : {X : Type 0} (x : X) (xs : List X) (z : X) → Has (x ∷ xs) z 
 has-cases x xs z h = has-cases-at x xs z (h .0) (h .1) (h .2)
 
 pub has-none : {X : Type 0} (z : X) → Has [] z → ⊥
-has-none z h = let l = h .1 in omega arith
+has-none z h = omega arith
 
 -- Whether some element is z is whether the list has z.
 pub some-decides : {X : Type 0} (test : X → Bool) (z : X) → ((y : X) → Decides (test y) (y ≡ z)) → (xs : List X) → Decides (some test xs) (Has xs z)

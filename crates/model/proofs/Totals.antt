@@ -132,7 +132,6 @@ pub filled-line : (t : Terms) (a : Line) (ls : List Line) → 1 ≤ a .visits �
 filled-line t a [] h f = (h, tt)
 filled-line t a (x ∷ xs) h f =
     let ih = filled-line t a xs h (f .1) in
-    let f0 = f .0 in
     split (line-before t x a)
     (λ o. simp o (f .0, ih))
     (λ o. split (same-key t x a) (λ k. simp (o, k) (omega arith, f .1)) (λ k. simp (o, k) (h, f)))
