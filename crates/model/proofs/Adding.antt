@@ -50,6 +50,12 @@ apart-rising t (v ∷ vs) a = (all-weaker (Follows t v) (λ w. visit-before t v 
 pub closed-rising : (t : Terms) (k : Reference) → Sorted-readings t (k .readings) → Rising-by (visit-before t) (closed-of t k)
 closed-rising t k s = rising-kept (visit-before t) (closed t (k .watermark)) (visits t (k .readings)) (apart-rising t (visits t (k .readings)) (visits-apart t (k .readings) s))
 
+-- So two lists of visits that rise are one if the same visits are in them.
+pub same-in : (t : Terms) (vs ws : List Visit) → Rising-by (visit-before t) vs → Rising-by (visit-before t) ws → ((z : Visit) → is-in t z vs ≡ is-in t z ws) → vs ≡ ws
+same-in t vs ws r s e =
+    same-members (visit-before t) (visit-strict t) vs ws r s
+    (λ z h. in-decides t z ws .0 (sym (e z) ∙ in-decides t z vs .1 h)) (λ z h. in-decides t z vs .0 (e z ∙ in-decides t z ws .1 h))
+
 -- What is before all others stays in front, and what is put in before all others goes there.
 put-all-behind : (t : Terms) (b : Visit) (ns vs : List Visit) → All (λ n. visit-before t b n ≡ true) ns → put-all-in t ns (b ∷ vs) ≡ b ∷ put-all-in t ns vs
 put-all-behind t b [] vs a = refl
@@ -84,15 +90,11 @@ both-in false false = refl
 stays : (t : Terms) (vs ws : List Visit) → Rising-by (visit-before t) vs → Rising-by (visit-before t) ws
     → difference t vs (difference t vs ws) ≡ kept-by (λ w. is-in t w vs) ws
 stays t vs ws r s =
-    let old = difference t vs (difference t vs ws) in
-    let new = kept-by (λ w. is-in t w vs) ws in
-    let e : (z : Visit) → is-in t z old ≡ is-in t z new =
-    λ z. some-kept t (λ v. not (is-in t v (difference t vs ws))) z vs
-    ∙ (ap (λ (b : Bool). not b && is-in t z vs) (some-kept t (λ v. not (is-in t v ws)) z vs)
-    ∙ (both-in (is-in t z vs) (is-in t z ws) ∙ sym (some-kept t (λ w. is-in t w vs) z ws))) in
-    same-members (visit-before t) (visit-strict t) old new
+    same-in t (difference t vs (difference t vs ws)) (kept-by (λ w. is-in t w vs) ws)
     (rising-kept (visit-before t) (λ v. not (is-in t v (difference t vs ws))) vs r) (rising-kept (visit-before t) (λ w. is-in t w vs) ws s)
-    (λ z h. in-decides t z new .0 (sym (e z) ∙ in-decides t z old .1 h)) (λ z h. in-decides t z old .0 (e z ∙ in-decides t z new .1 h))
+    (λ z. some-kept t (λ v. not (is-in t v (difference t vs ws))) z vs
+    ∙ (ap (λ (b : Bool). not b && is-in t z vs) (some-kept t (λ v. not (is-in t v ws)) z vs)
+    ∙ (both-in (is-in t z vs) (is-in t z ws) ∙ sym (some-kept t (λ w. is-in t w vs) z ws))))
 
 pub changes-applied : (t : Terms) (vs ws : List Visit) → Rising-by (visit-before t) vs → Rising-by (visit-before t) ws
     → applied-to t vs (changes t vs ws) ≡ ws

@@ -70,10 +70,6 @@ pub same-itself : (t : Terms) (v : Visit) → same-visit t v v ≡ true
 unfolding same-visit
 same-itself t v = grind (arith, tells)
 
-pub same-round : (t : Terms) (v w : Visit) → same-visit t v w ≡ same-visit t w v
-unfolding same-visit
-same-round t v w = grind (arith, tells)
-
 -- A visit differs from one that has more readings.
 pub fewer-differs : (t : Terms) (z v : Visit) → v .count < z .count → (same-visit t v z ≡ false) × (same-visit t z v ≡ false)
 unfolding same-visit

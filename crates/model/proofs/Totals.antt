@@ -1,23 +1,24 @@
 -- The ledger: the order in which visits are put to it does not matter, and taking undoes adding.
-use mathlib.Core.Path.{_≡_, refl, sym, ap, _∙_, subst}
-use mathlib.Core.Bool.{Bool, true, false, not, _||_, Bool·not-not}
+use mathlib.Core.Path.{_≡_, refl, sym, ap, _∙_}
+use mathlib.Core.Bool.{Bool, true, false, not, Bool·not-not, and-comm}
 use mathlib.Core.List.{List, [], _∷_}
 use Prim.Native.Nat.{ℕ, _+_, _-_, _≤_}
 use native.Mathlib.Omega.{arith}
 use lib.Dec.{eqb}
 use Rattle.std.specs.shelf.Lists.{All, kept-by}
-use Rattle.std.proofs.shelf.Tests.{or-parts}
 use Rattle.std.proofs.shelf.Ways.{tells}
 use Rattle.visit.specs.declared.Line.{Line}
 use Rattle.visit.specs.declared.Terms.{Terms}
 use Rattle.visit.specs.declared.Visit.{Visit}
 use Rattle.visit.specs.Lines.{line-before, line-minus, line-of, line-plus, same-key}
-use Rattle.visit.specs.Visits.{same-visit}
+use Rattle.visit.specs.Visits.{same-visit, visit-before}
 use Rattle.model.specs.Ledger.{add-line, add-visits, take-line, take-visits, totals}
 use Rattle.model.specs.Sessions.{difference, some}
 use Rattle.model.specs.Store.{booked}
-use Rattle.model.proofs.Common.{all-some, same-round, same-visits, split}
-use Rattle.model.proofs.Order.{Apart, Follows, absent-behind, all-follow}
+use Rattle.model.proofs.Common.{some-kept, split}
+use Rattle.model.proofs.Order.{Apart}
+use Rattle.model.proofs.Same.{rising-kept}
+use Rattle.model.proofs.Adding.{apart-rising, is-in, same-in}
 
 -- The order of keys.
 pub key-after : (t : Terms) (a b : Line) → line-before t a b ≡ false → same-key t a b ≡ false → line-before t b a ≡ true
@@ -193,52 +194,12 @@ add-parts t p q h (v ∷ vs) ls =
 abbrev pub shared : Terms → List Visit → List Visit → List Visit
 shared t vs ws = kept-by (λ v. some (same-visit t v) ws) vs
 
--- A visit that is not in a list is of no account to what that shares.
-shared-outside : (t : Terms) (v : Visit) (vs xs : List Visit) → some (same-visit t v) xs ≡ false → shared t xs (v ∷ vs) ≡ shared t xs vs
-shared-outside t v vs [] h = refl
-shared-outside t v vs (x ∷ xs) h =
-    let k = or-parts (same-visit t v x) (some (same-visit t v) xs) h in
-    let o : same-visit t x v ≡ false = same-round t x v ∙ k .0 in
-    let ih = shared-outside t v vs xs (k .1) in
-    simp (o, ih)
-
-shared-none : (t : Terms) (xs : List Visit) → shared t xs [] ≡ []
-shared-none t [] = refl
-shared-none t (x ∷ xs) = shared-none t xs
-
 -- Two lists in order share the same visits, either way round.
-keeps-first : {X : Type 0} (p : X → Bool) (x : X) (xs : List X) → p x ≡ true → kept-by p (x ∷ xs) ≡ x ∷ kept-by p xs
-keeps-first p x xs h = simp h
-
-drops-first : {X : Type 0} (p : X → Bool) (x : X) (xs : List X) → p x ≡ false → kept-by p (x ∷ xs) ≡ kept-by p xs
-drops-first p x xs h = simp h
-
-shared-more : (t : Terms) (v : Visit) (vs : List Visit) → Apart t (v ∷ vs) → ((ws : List Visit) → Apart t ws → shared t vs ws ≡ shared t ws vs)
-    → (ws : List Visit) → Apart t ws → shared t (v ∷ vs) ws ≡ shared t ws (v ∷ vs)
-shared-more t v vs p ih [] q = shared-none t (v ∷ vs)
-shared-more t v vs p ih (w ∷ ws) q =
-    split (some (same-visit t v) (w ∷ ws))
-    (λ i. split (same-visit t v w)
-    (λ s.
-    let e = same-visits t v w s in
-    let s′ : some (same-visit t w) (v ∷ vs) ≡ true = (let r : same-visit t w v ≡ true = same-round t w v ∙ s in simp r) in
-    let a : some (same-visit t w) vs ≡ false = subst (λ (x : Visit). some (same-visit t x) vs ≡ false) e (absent-behind t v vs (p .0) (p .1)) in
-    let b : some (same-visit t v) ws ≡ false = subst (λ (x : Visit). some (same-visit t x) ws ≡ false) (sym e) (absent-behind t w ws (q .0) (q .1)) in
-    keeps-first (λ x. some (same-visit t x) (w ∷ ws)) v vs i
-    ∙ ap (λ (l : List Visit). v ∷ l) (shared-outside t w ws vs a ∙ ih ws (q .2) ∙ sym (shared-outside t v vs ws b))
-    ∙ ap (λ (x : Visit). x ∷ shared t ws (v ∷ vs)) e
-    ∙ sym (keeps-first (λ x. some (same-visit t x) (v ∷ vs)) w ws s′))
-    (λ s.
-    let j : some (same-visit t v) ws ≡ true = sym (ap (λ (b : Bool). b || some (same-visit t v) ws) s) ∙ i in
-    let f : Follows t w v = all-some t (Follows t w) v ws (q .1) j in
-    let a : All (Follows t w) (v ∷ vs) = (f, all-follow t w v vs f (p .0) (p .1)) in
-    let o = absent-behind t w (v ∷ vs) (q .0) a in
-    shared-outside t w ws (v ∷ vs) o ∙ shared-more t v vs p ih ws (q .2) ∙ sym (drops-first (λ x. some (same-visit t x) (v ∷ vs)) w ws o)))
-    (λ i. drops-first (λ x. some (same-visit t x) (w ∷ ws)) v vs i ∙ ih (w ∷ ws) q ∙ sym (shared-outside t v vs (w ∷ ws) i))
-
 pub shared-round : (t : Terms) (vs ws : List Visit) → Apart t vs → Apart t ws → shared t vs ws ≡ shared t ws vs
-shared-round t [] ws p q = sym (shared-none t ws)
-shared-round t (v ∷ vs) ws p q = shared-more t v vs p (λ xs r. shared-round t vs xs (p .2) r) ws q
+shared-round t vs ws p q =
+    same-in t (shared t vs ws) (shared t ws vs)
+    (rising-kept (visit-before t) (λ v. is-in t v ws) vs (apart-rising t vs p)) (rising-kept (visit-before t) (λ w. is-in t w vs) ws (apart-rising t ws q))
+    (λ z. some-kept t (λ v. is-in t v ws) z vs ∙ and-comm (is-in t z ws) (is-in t z vs) ∙ sym (some-kept t (λ w. is-in t w vs) z ws))
 
 -- The ledger of the old visits, with what has gone taken and what is new added, is the ledger of the new ones.
 totals-parts : (t : Terms) (vs ws : List Visit) → totals t vs ≡ add-visits t (difference t vs ws) (add-visits t (shared t vs ws) [])
