@@ -59,7 +59,7 @@ same-in t vs ws r s e =
 -- What is before all others stays in front, and what is put in before all others goes there.
 put-all-behind : (t : Terms) (b : Visit) (ns vs : List Visit) → All (λ n. visit-before t b n ≡ true) ns → put-all-in t ns (b ∷ vs) ≡ b ∷ put-all-in t ns vs
 put-all-behind t b [] vs a = refl
-put-all-behind t b (n ∷ ns) vs a = let h = a .0 in simp h (put-all-behind t b ns (put-in t n vs) (a .1))
+put-all-behind t b (n ∷ ns) vs a = simp (a .0) (put-all-behind t b ns (put-in t n vs) (a .1))
 
 put-in-front : (t : Terms) (b : Visit) (vs : List Visit) → All (λ v. visit-before t b v ≡ true) vs → put-in t b vs ≡ b ∷ vs
 put-in-front t b [] a = refl

@@ -112,7 +112,7 @@ differ t p v w a b =
 -- An expired visit is among the merged ones if it was there before.
 pub dead-merge : (t : Terms) (m : ℕ) (v : Visit) → live t m v ≡ false → (u : Visit) (vs : List Visit) → live t m u ≡ true → Reaches-live t m u vs → Apart t vs
     → some (same-visit t v) (merge-in t u vs) ≡ some (same-visit t v) vs
-dead-merge t m v d u [] l r p = let q = differ t (live t m) v u d l in simp q
+dead-merge t m v d u [] l r p = simp (differ t (live t m) v u d l)
 dead-merge t m v d u (w ∷ ws) l r p =
     split (near t u w)
     (λ n.
@@ -130,7 +130,7 @@ difference-kept : (p q l i : Bool) → (l ≡ false → (p ≡ true) × (q ≡ t
 difference-kept true true true i h k = refl
 difference-kept true false true i h k = refl
 difference-kept false q true i h k = refl
-difference-kept true true false i h k = let j = k refl in simp j
+difference-kept true true false i h k = simp (k refl)
 difference-kept true false false i h k = sym (h refl .1)
 difference-kept false true false i h k = refl
 difference-kept false false false i h k = refl
@@ -183,7 +183,7 @@ insert-first t m e x (y ∷ ys) h k o a =
 
 pub insert-kept : (t : Terms) (m : ℕ) (e : Reading) (xs : List Reading) → too-late t m e ≡ false → Sorted-readings t xs
     → insert-reading t e (kept-only t m xs) ≡ kept-only t m (insert-reading t e xs)
-insert-kept t m e [] h s = let k = timely-kept t m e h in simp k
+insert-kept t m e [] h s = simp (timely-kept t m e h)
 insert-kept t m e (x ∷ xs) h s =
     let j = timely-kept t m e h in
     let ih = insert-kept t m e xs h (s .1) in

@@ -89,7 +89,7 @@ kept-again t m (e ∷ es) =
     (λ o. simp o ih)
 
 refused-again : (t : Terms) (s : Store) (e : Reading) → (too-late t (s .watermark) e ≡ false) × (contains t e (s .seen) ≡ true) → store-outcome t s (A-reading e) ≡ refused (Duplicate (e .time))
-refused-again t s e h = let a = h .0 in let b = h .1 in simp (a, b)
+refused-again t s e h = simp (h .0, h .1)
 
 -- A visit that is near to one that is merged in is there no more: what is made has more readings.
 outgrown-merge : (t : Terms) (v u : Visit) (ws : List Visit) → v .count < u .count → some (same-visit t v) ws ≡ false → some (same-visit t v) (merge-in t u ws) ≡ false

@@ -145,7 +145,7 @@ same-visits-count : (n : ℕ) → eqb n n ≡ true
 same-visits-count n = grind (arith, tells)
 
 pub take-undoes : (t : Terms) (a : Line) (ls : List Line) → Filled ls → take-line t a (add-line t a ls) ≡ ls
-take-undoes t a [] f = let k = key-itself t a .1 in let e = same-visits-count (a .visits) in simp (k, e)
+take-undoes t a [] f = simp (key-itself t a .1, same-visits-count (a .visits))
 take-undoes t a (x ∷ xs) f =
     let ih = take-undoes t a xs (f .1) in
     split (line-before t x a)
