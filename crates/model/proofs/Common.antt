@@ -20,7 +20,7 @@ abbrev pub split : {P : Type 0} (b : Bool) → (b ≡ true → P) → (b ≡ fal
 split true f g = f refl
 split false f g = g refl
 
--- What holds of all elements, twice.
+-- Two things that hold of all elements.
 pub all-both : {X : Type 0} (P Q : X → Type 0) (xs : List X) → All P xs → All Q xs → All (λ x. P x × Q x) xs
 all-both P Q [] a b = tt
 all-both P Q (x ∷ xs) a b = ((a .0, b .0), all-both P Q xs (a .1) (b .1))

@@ -97,7 +97,7 @@ pub visits-apart : (t : Terms) (xs : List Reading) → Sorted-readings t xs → 
 visits-apart t [] s = tt
 visits-apart t (x ∷ xs) s = prepend-apart t x (visits t xs) (sorted-not-after t x xs (s .0)) (visits-apart t xs (s .1))
 
--- Visits that are in order themselves, and what is merged from one.
+-- In visits that stand apart each is in order itself; so is what is made of one that is.
 pub apart-order : (t : Terms) (vs : List Visit) → Apart t vs → All (λ v. v .from ≤ v .to) vs
 apart-order t [] p = tt
 apart-order t (v ∷ vs) p = (p .0, apart-order t vs (p .2))
@@ -105,7 +105,7 @@ apart-order t (v ∷ vs) p = (p .0, apart-order t vs (p .2))
 pub merged-order : (u w : Visit) → u .from ≤ u .to → merged u w .from ≤ merged u w .to
 merged-order u w h = omega arith
 
--- What follows a visit is followed by what follows that, and a visit is not among those that follow it.
+-- What follows a visit follows all that this one follows, and a visit is not among those that follow it.
 follows-follows : (t : Terms) (u v : Visit) → Follows t u v → v .from ≤ v .to → (w : Visit) → Follows t v w → Follows t u w
 follows-follows t u v f h w g = (omega arith, grind arith)
 
