@@ -2,7 +2,7 @@
 use mathlib.Core.Path.{_≡_, refl, sym, ap, _∙_, subst}
 use mathlib.Core.Bool.{Bool, true, false, not, _&&_}
 use mathlib.Core.List.{List, [], _∷_}
-use Prim.Native.Nat.{ℕ, _≤_}
+use Prim.Native.Nat.{_≤_}
 use native.Mathlib.Omega.{arith}
 use Rattle.std.specs.Orderings.{Decides}
 use Rattle.std.specs.declared.result.Result.{Result}
@@ -19,33 +19,13 @@ use Rattle.command.specs.declared.Refusal.{Refusal}
 use Rattle.model.specs.AddsUp.{All-sound, Changes-add-up, Sound, applied-all, applied-to, put-all-in, put-in}
 use Rattle.model.specs.Reference.{Reference, after, closed-of, empty, outcome-by, outcomes, plan, state-by, step}
 use Rattle.model.specs.Sessions.{changes, difference, some, visits}
-use Rattle.model.proofs.Order.{Apart, Follows, Sorted-readings, after-sorted, split, visits-apart}
+use Rattle.model.proofs.Common.{same-itself, same-visits, some-kept, split}
+use Rattle.model.proofs.Order.{Apart, Follows, Sorted-readings, step-sorted, visits-apart}
 use Rattle.model.proofs.Same.{Rising-by, rising-kept, same-members, some-decides}
 
 -- Visits that are the same are one, so looking for a visit decides whether a list has it.
-abbrev visit-of : ℕ → ℕ → ℕ → ℕ → ℕ → Visit
-visit-of c f l n s = record { card = c; from = f; to = l; count = n; sum = s }
-
-same-parts : (v w : Visit) → w .card ≡ v .card → w .from ≡ v .from → w .to ≡ v .to → w .count ≡ v .count → w .sum ≡ v .sum → w ≡ v
-same-parts v w c f l n s =
-    let e : visit-of (w .card) (w .from) (w .to) (w .count) (w .sum) ≡ visit-of (v .card) (v .from) (v .to) (v .count) (v .sum) = cc in e
-
-same-visit-is : (t : Terms) (v w : Visit) → same-visit t v w ≡ true → w ≡ v
-unfolding same-visit
-same-visit-is t v w h =
-    let c : w .card ≡ v .card = grind (arith, tells) in
-    let f : w .from ≡ v .from = grind (arith, tells) in
-    let l : w .to ≡ v .to = grind (arith, tells) in
-    let n : w .count ≡ v .count = grind (arith, tells) in
-    let s : w .sum ≡ v .sum = grind (arith, tells) in
-    same-parts v w c f l n s
-
-pub same-itself : (t : Terms) (v : Visit) → same-visit t v v ≡ true
-unfolding same-visit
-same-itself t v = grind (arith, tells)
-
 pub same-decides : (t : Terms) (v w : Visit) → Decides (same-visit t v w) (w ≡ v)
-same-decides t v w = (same-visit-is t v w, λ e. subst (λ (u : Visit). same-visit t v u ≡ true) (sym e) (same-itself t v))
+same-decides t v w = (λ h. sym (same-visits t v w h), λ e. subst (λ (u : Visit). same-visit t v u ≡ true) (sym e) (same-itself t v))
 
 -- Whether a visit is in a list.
 abbrev pub is-in : Terms → Visit → List Visit → Bool
@@ -53,22 +33,6 @@ is-in t v vs = some (same-visit t v) vs
 
 pub in-decides : (t : Terms) (v : Visit) (vs : List Visit) → Decides (is-in t v vs) (Has vs v)
 in-decides t v vs = some-decides (same-visit t v) v (same-decides t v) vs
-
-and-no : (b : Bool) → (b && false) ≡ false
-and-no true = refl
-and-no false = refl
-
-in-kept : (t : Terms) (p : Visit → Bool) (v : Visit) (vs : List Visit) → is-in t v (kept-by p vs) ≡ (is-in t v vs && p v)
-in-kept t p v [] = refl
-in-kept t p v (w ∷ vs) =
-    let ih = in-kept t p v vs in
-    split (same-visit t v w)
-    (λ o.
-    let e : p w ≡ p v = ap p (same-visit-is t v w o) in
-    split (p v)
-    (λ q. let r : p w ≡ true = e ∙ q in simp (o, q, r))
-    (λ q. let r : p w ≡ false = e ∙ q in let i : is-in t v (kept-by p vs) ≡ (is-in t v vs && false) = ih ∙ ap (λ (b : Bool). is-in t v vs && b) q in simp (o, q, r) (i ∙ and-no (is-in t v vs))))
-    (λ o. split (p w) (λ r. simp (o, r, ih)) (λ r. simp (o, r, ih)))
 
 -- Visits rise by their order where they are apart, and no two come each before the other.
 follows-before : (t : Terms) (v : Visit) → v .from ≤ v .to → (w : Visit) → Follows t v w → visit-before t v w ≡ true
@@ -86,10 +50,16 @@ apart-rising t (v ∷ vs) a = (all-weaker (Follows t v) (λ w. visit-before t v 
 pub closed-rising : (t : Terms) (k : Reference) → Sorted-readings t (k .readings) → Rising-by (visit-before t) (closed-of t k)
 closed-rising t k s = rising-kept (visit-before t) (closed t (k .watermark)) (visits t (k .readings)) (apart-rising t (visits t (k .readings)) (visits-apart t (k .readings) s))
 
+-- So two lists of visits that rise are one if the same visits are in them.
+pub same-in : (t : Terms) (vs ws : List Visit) → Rising-by (visit-before t) vs → Rising-by (visit-before t) ws → ((z : Visit) → is-in t z vs ≡ is-in t z ws) → vs ≡ ws
+same-in t vs ws r s e =
+    same-members (visit-before t) (visit-strict t) vs ws r s
+    (λ z h. in-decides t z ws .0 (sym (e z) ∙ in-decides t z vs .1 h)) (λ z h. in-decides t z vs .0 (e z ∙ in-decides t z ws .1 h))
+
 -- What is before all others stays in front, and what is put in before all others goes there.
 put-all-behind : (t : Terms) (b : Visit) (ns vs : List Visit) → All (λ n. visit-before t b n ≡ true) ns → put-all-in t ns (b ∷ vs) ≡ b ∷ put-all-in t ns vs
 put-all-behind t b [] vs a = refl
-put-all-behind t b (n ∷ ns) vs a = let h = a .0 in simp h (put-all-behind t b ns (put-in t n vs) (a .1))
+put-all-behind t b (n ∷ ns) vs a = simp (a .0) (put-all-behind t b ns (put-in t n vs) (a .1))
 
 put-in-front : (t : Terms) (b : Visit) (vs : List Visit) → All (λ v. visit-before t b v ≡ true) vs → put-in t b vs ≡ b ∷ vs
 put-in-front t b [] a = refl
@@ -111,7 +81,7 @@ put-back t p q other (v ∷ vs) r =
     simp (o, n, front, behind, ih))
 
 -- What stays of one list is what is in both, and so a part of the other.
-both-in : (a b : Bool) → (a && not (a && not b)) ≡ (b && a)
+both-in : (a b : Bool) → (not (not b && a) && a) ≡ (a && b)
 both-in true true = refl
 both-in true false = refl
 both-in false true = refl
@@ -120,15 +90,11 @@ both-in false false = refl
 stays : (t : Terms) (vs ws : List Visit) → Rising-by (visit-before t) vs → Rising-by (visit-before t) ws
     → difference t vs (difference t vs ws) ≡ kept-by (λ w. is-in t w vs) ws
 stays t vs ws r s =
-    let old = difference t vs (difference t vs ws) in
-    let new = kept-by (λ w. is-in t w vs) ws in
-    let e : (z : Visit) → is-in t z old ≡ is-in t z new =
-    λ z. in-kept t (λ v. not (is-in t v (difference t vs ws))) z vs
-    ∙ (ap (λ (b : Bool). is-in t z vs && not b) (in-kept t (λ v. not (is-in t v ws)) z vs)
-    ∙ (both-in (is-in t z vs) (is-in t z ws) ∙ sym (in-kept t (λ w. is-in t w vs) z ws))) in
-    same-members (visit-before t) (visit-strict t) old new
+    same-in t (difference t vs (difference t vs ws)) (kept-by (λ w. is-in t w vs) ws)
     (rising-kept (visit-before t) (λ v. not (is-in t v (difference t vs ws))) vs r) (rising-kept (visit-before t) (λ w. is-in t w vs) ws s)
-    (λ z h. in-decides t z new .0 (sym (e z) ∙ in-decides t z old .1 h)) (λ z h. in-decides t z old .0 (e z ∙ in-decides t z new .1 h))
+    (λ z. some-kept t (λ v. not (is-in t v (difference t vs ws))) z vs
+    ∙ (ap (λ (b : Bool). not b && is-in t z vs) (some-kept t (λ v. not (is-in t v ws)) z vs)
+    ∙ (both-in (is-in t z vs) (is-in t z ws) ∙ sym (some-kept t (λ w. is-in t w vs) z ws))))
 
 pub changes-applied : (t : Terms) (vs ws : List Visit) → Rising-by (visit-before t) vs → Rising-by (visit-before t) ws
     → applied-to t vs (changes t vs ws) ≡ ws
@@ -159,14 +125,14 @@ pub applied-outcomes : (t : Terms) (k : Reference) (cs : List Command) → Sorte
     → applied-all t (closed-of t k) (outcomes t k cs) ≡ closed-of t (after t k cs)
 applied-outcomes t k [] s = refl
 applied-outcomes t k (c ∷ cs) s =
-    let n = after-sorted t k (c ∷ []) s in
+    let n = step-sorted t k c s in
     ap (λ (vs : List Visit). applied-all t vs (outcomes t (step t k c) cs)) (applied-by t k (plan t k c) s n)
     ∙ applied-outcomes t (step t k c) cs n
 
 pub sound-outcomes : (t : Terms) (k : Reference) (cs : List Command) → Sorted-readings t (k .readings) → All-sound t (closed-of t k) (outcomes t k cs)
 sound-outcomes t k [] s = tt
 sound-outcomes t k (c ∷ cs) s =
-    let n = after-sorted t k (c ∷ []) s in (
+    let n = step-sorted t k c s in (
       sound-by t k (plan t k c),
       subst (λ (vs : List Visit). All-sound t vs (outcomes t (step t k c) cs)) (sym (applied-by t k (plan t k c) s n)) (sound-outcomes t (step t k c) cs n),
     )

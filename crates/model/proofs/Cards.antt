@@ -2,7 +2,7 @@
 use mathlib.Core.Path.{_≡_, refl, sym, ap, _∙_}
 use mathlib.Core.Bool.{Bool, true, false}
 use mathlib.Core.List.{List, [], _∷_}
-use Prim.Native.Nat.{ℕ, _<_}
+use Prim.Native.Nat.{ℕ}
 use native.Mathlib.Omega.{arith}
 use lib.Dec.{ltb}
 use Rattle.std.specs.shelf.Lists.{All, kept-by}
@@ -19,8 +19,8 @@ use Rattle.command.specs.declared.Command.the-variants.{Reading as A-reading, W
 use Rattle.model.specs.Cards.{Cards-apart, of-cards}
 use Rattle.model.specs.Reference.{Reference, after, closed-of, empty, step}
 use Rattle.model.specs.Sessions.{contains, insert-reading, prepend, visits}
-use Rattle.model.proofs.Order.{Apart, Follows, Not-after, Sorted-readings, after-sorted, before-before, reference-sorted, sorted-not-after, split, visits-apart}
-use Rattle.model.proofs.Same.{kept-commute}
+use Rattle.model.proofs.Common.{kept-commute, split}
+use Rattle.model.proofs.Order.{Apart, Follows, Not-after, Sorted-readings, before-before, reference-sorted, sorted-not-after, step-sorted, visits-apart}
 
 -- The readings, the visits and the state of some cards.
 abbrev pub readings-by : (ℕ → Bool) → List Reading → List Reading
@@ -51,7 +51,7 @@ contains-by t p e (x ∷ xs) h =
 -- A reading that no reading is before goes to the front.
 insert-front : (t : Terms) (e : Reading) (xs : List Reading) → All (λ x. reading-before t x e ≡ false) xs → insert-reading t e xs ≡ e ∷ xs
 insert-front t e [] a = refl
-insert-front t e (x ∷ xs) a = let h = a .0 in simp h
+insert-front t e (x ∷ xs) a = simp (a .0)
 
 not-before : (t : Terms) (e x : Reading) → reading-before t x e ≡ false → (y : Reading) → reading-before t x y ≡ true → reading-before t y e ≡ false
 not-before t e x h y b = split (reading-before t y e) (λ o. absurd (both-ways (reading-before t x e) h (before-before t x y e b o))) (λ o. o)
@@ -83,11 +83,11 @@ joined-card t e v h = grind (arith, tells)
 
 other-joins : (t : Terms) (e : Reading) (v : Visit) → Not-after e v → (e .card ≡ v .card → ⊥) → (w : Visit) → Follows t v w → joins t e w ≡ false
 unfolding joins
-other-joins t e v n h w f = let l : e .card < w .card = omega arith in grind (arith, tells)
+other-joins t e v n h w f = grind (arith, tells)
 
 prepend-alone : (t : Terms) (e : Reading) (vs : List Visit) → All (λ v. joins t e v ≡ false) vs → prepend t e vs ≡ single e ∷ vs
 prepend-alone t e [] a = refl
-prepend-alone t e (v ∷ vs) a = let h = a .0 in simp h
+prepend-alone t e (v ∷ vs) a = simp (a .0)
 
 prepend-by : (t : Terms) (p : ℕ → Bool) (e : Reading) (vs : List Visit) → All (Not-after e) vs → Apart t vs → p (e .card) ≡ true
     → visits-by p (prepend t e vs) ≡ prepend t e (visits-by p vs)
@@ -143,7 +143,7 @@ pub after-part : (t : Terms) (p : ℕ → Bool) (k : Reference) (cs : List Comma
     → part-by p (after t k cs) ≡ after t (part-by p k) (kept-by (of-cards p) cs)
 after-part t p k [] s = refl
 after-part t p k (c ∷ cs) s =
-    let ih = after-part t p (step t k c) cs (after-sorted t k (c ∷ []) s) in
+    let ih = after-part t p (step t k c) cs (step-sorted t k c s) in
     split (of-cards p c)
     (λ o. simp o (ih ∙ ap (λ (l : Reference). after t l (kept-by (of-cards p) cs)) (sym (step-by t p k c s o))))
     (λ o. simp o (ih ∙ ap (λ (l : Reference). after t l (kept-by (of-cards p) cs)) (step-other t p k c o)))

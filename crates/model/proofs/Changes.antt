@@ -1,14 +1,12 @@
 -- What a command changes among the closed visits.
 use mathlib.Core.Path.{_≡_, refl, sym, ap, subst, _∙_}
-use mathlib.Core.Bool.{Bool, true, false, not, _||_}
+use mathlib.Core.Bool.{true, false, not}
 use mathlib.Core.List.{List, [], _∷_, _++_}
-use Prim.Native.Nat.{ℕ, _+_, _<_, _≤_}
+use Prim.Native.Nat.{ℕ, _<_, _≤_}
 use native.Mathlib.Omega.{arith}
 use lib.Dec.{ltb}
-use lib.ListN.{length}
-use Rattle.std.specs.shelf.Lists.{All, kept-by}
+use Rattle.std.specs.shelf.Lists.{All}
 use Rattle.std.proofs.shelf.Elements.{all-kept-by, all-weaker, kept-by-append, kept-by-passes}
-use Rattle.std.proofs.shelf.Filters.{length-kept-by-both}
 use Rattle.std.proofs.shelf.Lists.{append-nil}
 use Rattle.std.proofs.shelf.Tests.{ltb-false, or-from, or-left, or-parts, or-right}
 use Rattle.std.proofs.shelf.Ways.{tells}
@@ -18,44 +16,16 @@ use Rattle.visit.specs.declared.Visit.{Visit}
 use Rattle.visit.specs.Readings.{too-late}
 use Rattle.visit.specs.Visits.{closed, merged, near, same-visit, single}
 use Rattle.command.specs.declared.Command.the-variants.{Reading as A-reading}
-use Rattle.command.specs.declared.Refusal.the-variants.{TooLate, Duplicate, Backwards}
-use Rattle.command.specs.Outcomes.{changed, refused}
+use Rattle.command.specs.Outcomes.{changed}
 use Rattle.model.specs.Few.{Few-changes, On-time, Only-what-is-met, Watermark-adds, became, merged-with, met, near-ones}
 use Rattle.model.specs.Reference.{Reference, after, closed-of, empty, outcome}
 use Rattle.model.specs.Sessions.{changes, closed-visits, contains, difference, insert-reading, some, visits}
 use Rattle.model.specs.Store.{merge-in}
-use Rattle.model.proofs.Merge.{insert-merges, kept-none, merge-keeps-apart, merge-shape, near-two}
-use Rattle.model.proofs.Order.{Apart, Follows, reference-sorted, split, visits-apart}
+use Rattle.model.proofs.Common.{Absent, In, absent-kept, all-both, all-in, fewer-differs, in-more, kept-none, kept-shorter, same-itself, some-append, split}
+use Rattle.model.proofs.Merge.{insert-merges, merge-keeps-apart, merge-shape, near-two}
+use Rattle.model.proofs.Order.{Apart, Follows, absent-behind, follows-differs, reference-sorted, visits-apart}
 
--- Elements that pass some test, in lists that are put together or cut.
-some-append : {X : Type 0} (p : X → Bool) (xs ys : List X) → some p (xs ++ ys) ≡ (some p xs || some p ys)
-some-append p [] ys = refl
-some-append p (x ∷ xs) ys = split (p x) (λ q. simp q) (λ q. simp (q, some-append p xs ys))
-
-some-kept : {X : Type 0} (p c : X → Bool) (xs : List X) → some p xs ≡ false → some p (kept-by c xs) ≡ false
-some-kept p c [] h = refl
-some-kept p c (x ∷ xs) h =
-    let d = or-parts (p x) (some p xs) h in
-    split (c x) (λ q. simp (q, d .0) (some-kept p c xs (d .1))) (λ q. simp q (some-kept p c xs (d .1)))
-
--- A visit is in a list or absent from it.
-same-itself : (t : Terms) (v : Visit) → same-visit t v v ≡ true
-unfolding same-visit
-same-itself t v = grind (arith, tells)
-
-abbrev pub In : Terms → List Visit → Visit → Type 0
-In t ws v = some (same-visit t v) ws ≡ true
-
-abbrev pub Absent : Terms → List Visit → Visit → Type 0
-Absent t ws v = some (same-visit t v) ws ≡ false
-
-in-more : (t : Terms) (v : Visit) (vs : List Visit) (w : Visit) → In t vs w → In t (v ∷ vs) w
-in-more t v vs w h = or-right (same-visit t w v) (some (same-visit t w) vs) h
-
-all-in : (t : Terms) (vs : List Visit) → All (In t vs) vs
-all-in t [] = tt
-all-in t (v ∷ vs) = (simp (same-itself t v), all-weaker (In t vs) (In t (v ∷ vs)) (in-more t v vs) vs (all-in t vs))
-
+-- A visit is in lists that are put together, or absent from them, as it is of the parts.
 in-left : (t : Terms) (xs ys : List Visit) (v : Visit) → In t xs v → In t (xs ++ ys) v
 in-left t xs ys v h = some-append (same-visit t v) xs ys ∙ or-left (some (same-visit t v) xs) (some (same-visit t v) ys) h
 
@@ -92,14 +62,6 @@ difference-middle t ps ms zs ss a =
     ∙ (difference-append t ms ss whole ∙ (ap (λ (l : List Visit). l ++ difference t ss whole) m ∙ (ap (λ (l : List Visit). ms ++ l) s ∙ append-nil ms))))
 
 -- In visits that are apart none stands twice.
-follows-differs : (t : Terms) (v w : Visit) → v .from ≤ v .to → Follows t v w → (same-visit t v w ≡ false) × (same-visit t w v ≡ false)
-unfolding same-visit
-follows-differs t v w h f = (grind (arith, tells), grind (arith, tells))
-
-absent-behind : (t : Terms) (v : Visit) (vs : List Visit) → v .from ≤ v .to → All (Follows t v) vs → Absent t vs v
-absent-behind t v [] h a = refl
-absent-behind t v (w ∷ ws) h a = simp (follows-differs t v w h (a .0) .0, absent-behind t v ws h (a .1))
-
 all-here : {X : Type 0} (P : X → Type 0) (xs ys : List X) (y : X) → All P (xs ++ (y ∷ ys)) → P y
 all-here P [] ys y a = a .0
 all-here P (x ∷ xs) ys y a = all-here P xs ys y (a .1)
@@ -124,17 +86,13 @@ absent-others t ps (v ∷ ms) ss p =
     let r = absent-around t ps (ms ++ ss) v p in
     ((r .0, absent-parts t ms ss v (r .1) .1), absent-others t ps ms ss (apart-without t ps (ms ++ ss) v p))
 
-all-both : {X : Type 0} (P Q : X → Type 0) (xs : List X) → All P xs → All Q xs → All (λ x. P x × Q x) xs
-all-both P Q [] a b = tt
-all-both P Q (x ∷ xs) a b = ((a .0, b .0), all-both P Q xs (a .1) (b .1))
-
 closed-parts : (t : Terms) (m : ℕ) (ps ms ss : List Visit) → closed-visits t m (ps ++ (ms ++ ss)) ≡ closed-visits t m ps ++ (closed-visits t m ms ++ closed-visits t m ss)
 closed-parts t m ps ms ss = kept-by-append (closed t m) ps (ms ++ ss) ∙ ap (λ (l : List Visit). closed-visits t m ps ++ l) (kept-by-append (closed t m) ms ss)
 
 closed-absent : (t : Terms) (m : ℕ) (ps zs ss : List Visit) (v : Visit) → Absent t ps v → Absent t zs v → Absent t ss v
     → Absent t (closed-visits t m ps ++ (closed-visits t m zs ++ closed-visits t m ss)) v
 closed-absent t m ps zs ss v p z s =
-    let out = some-kept (same-visit t v) (closed t m) in
+    let out = absent-kept t (closed t m) v in
     absent-append t (closed-visits t m ps) (closed-visits t m zs ++ closed-visits t m ss) v (out ps p) (absent-append t (closed-visits t m zs) (closed-visits t m ss) v (out zs z) (out ss s))
 
 -- Visits replaced in the middle: of the closed ones, just those of the middle are missed.
@@ -169,10 +127,6 @@ with-to : (u : Visit) (ms : List Visit) → u .to ≤ merged-with u ms .to
 with-to u [] = omega arith
 with-to u (v ∷ ms) = omega (arith, with-to (merged u v) ms)
 
-fewer-differs : (t : Terms) (z v : Visit) → v .count < z .count → (same-visit t v z ≡ false) × (same-visit t z v ≡ false)
-unfolding same-visit
-fewer-differs t z v h = (grind (arith, tells), grind (arith, tells))
-
 fewer-absent : (t : Terms) (z v : Visit) → v .count < z .count → Absent t (z ∷ []) v
 fewer-absent t z v h = simp (fewer-differs t z v h .0)
 
@@ -197,9 +151,9 @@ taken-in : (t : Terms) (k : Reference) (e : Reading) (gone new : List Visit) →
     → changes t (closed-of t k) (closed-visits t (k .watermark) (visits t (insert-reading t e (k .readings)))) ≡ changed gone new
 taken-in t k e gone new h =
     split (too-late t (k .watermark) e)
-    (λ o. let r : refused (TooLate (e .time)) ≡ changed gone new = simp o at h in cc)
+    (λ o. cc)
     (λ o. split (contains t e (k .readings))
-    (λ q. let r : refused (Duplicate (e .time)) ≡ changed gone new = simp (o, q) at h in cc)
+    (λ q. cc)
     (λ q. simp (o, q) at h))
 
 pub only-what-is-met : Only-what-is-met
@@ -213,9 +167,6 @@ only-what-is-met t cs e gone new h =
     (cc q, cc q)
 
 -- So it changes few visits, and none if it is on time.
-kept-shorter : {X : Type 0} (p : X → Bool) (xs : List X) → length (kept-by p xs) ≤ length xs
-kept-shorter p xs = omega (arith, length-kept-by-both p (λ x. not (p x)) (λ _. refl) xs)
-
 pub few-changes : Few-changes
 few-changes t cs e gone new h =
     let k : Reference = after t empty cs in
@@ -269,5 +220,5 @@ risen t k m gone new h r =
 pub watermark-adds : Watermark-adds
 watermark-adds t k m gone new h =
     split (ltb m (k .watermark))
-    (λ o. let r : refused (Backwards m) ≡ changed gone new = simp o at h in cc)
+    (λ o. cc)
     (λ o. risen t k m gone new (ltb-false m (k .watermark) o) (simp o at h))

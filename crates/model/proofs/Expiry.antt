@@ -1,6 +1,6 @@
 -- Expired visits and readings that are too late change nothing that a command does.
 use mathlib.Core.Path.{_≡_, refl, sym, ap, _∙_}
-use mathlib.Core.Bool.{Bool, true, false, not, _&&_}
+use mathlib.Core.Bool.{Bool, true, false, not, _&&_, and-assoc}
 use mathlib.Core.List.{List, [], _∷_}
 use Prim.Native.Nat.{ℕ, _<_, _≤_}
 use native.Mathlib.Omega.{arith}
@@ -14,17 +14,8 @@ use Rattle.visit.specs.Readings.{gap-of, kept, reading-before, same-reading, to
 use Rattle.visit.specs.Visits.{closed, expired, live, merged, near, same-visit, single, visit-before}
 use Rattle.model.specs.Sessions.{closed-visits, contains, difference, insert-reading, some}
 use Rattle.model.specs.Store.{kept-only, live-only, merge-in}
-use Rattle.model.proofs.Merge.{kept-same}
-use Rattle.model.proofs.Order.{Apart, Follows, Sorted-readings, split}
-
--- Filters: one after the other is one; tests that agree keep the same.
-pub kept-twice : {X : Type 0} (p q : X → Bool) (xs : List X) → kept-by p (kept-by q xs) ≡ kept-by (λ x. q x && p x) xs
-kept-twice p q [] = refl
-kept-twice p q (x ∷ xs) = let ih = kept-twice p q xs in split (q x) (λ o. simp (o, ih)) (λ o. simp (o, ih))
-
-pub kept-alike : {X : Type 0} (p q : X → Bool) → ((x : X) → p x ≡ q x) → (xs : List X) → kept-by p xs ≡ kept-by q xs
-kept-alike p q h [] = refl
-kept-alike p q h (x ∷ xs) = let k = h x in let ih = kept-alike p q h xs in simp (k, ih)
+use Rattle.model.proofs.Common.{all-both, all-in, kept-agree, kept-alike, kept-twice, same-visits, some-kept, split}
+use Rattle.model.proofs.Order.{Apart, Follows, Sorted-readings, apart-order, merged-order}
 
 -- What the tests tell of each other. Of `kept` no more is used than this: a reading that is not too late is kept, and what is kept was kept before.
 pub timely-kept : (t : Terms) (m : ℕ) (e : Reading) → too-late t m e ≡ false → kept t m e ≡ true
@@ -73,15 +64,10 @@ merged-near : (t : Terms) (m : ℕ) (u w : Visit) → near t u w ≡ true → li
 unfolding live expired near gap-of
 merged-near t m u w n l x f q = grind (arith, tells)
 
--- In visits that stand apart each is in order itself.
-pub apart-each : (t : Terms) (P : Visit → Type 0) (vs : List Visit) → All P vs → Apart t vs → All (λ v. (v .from ≤ v .to) × P v) vs
-apart-each t P [] a p = tt
-apart-each t P (v ∷ vs) a p = ((p .0, a .0), apart-each t P vs (a .1) (p .2))
-
 pub merged-reaches : (t : Terms) (m : ℕ) (u w : Visit) (ws : List Visit) → near t u w ≡ true → live t m w ≡ true → All (Follows t w) ws → Apart t ws
     → Reaches-live t m (merged u w) ws
 merged-reaches t m u w ws n l a p =
-    all-weaker (λ x. (x .from ≤ x .to) × Follows t w x) (λ x. near t (merged u w) x ≡ true → live t m x ≡ true) (merged-near t m u w n l) ws (apart-each t (Follows t w) ws a p)
+    all-weaker (λ x. (x .from ≤ x .to) × Follows t w x) (λ x. near t (merged u w) x ≡ true → live t m x ≡ true) (merged-near t m u w n l) ws (all-both (λ x. x .from ≤ x .to) (Follows t w) ws (apart-order t ws p) a)
 
 -- Past an expired visit that a live one neither reaches nor passes, there is nothing that it reaches or passes.
 dead-stop : (t : Terms) (m : ℕ) (u w : Visit) → u .from ≤ u .to → w .from ≤ w .to → live t m u ≡ true → live t m w ≡ false → near t u w ≡ false → visit-before t w u ≡ false
@@ -103,9 +89,6 @@ stays-first t m u w (x ∷ xs) h a =
     split (live t m x) (λ l. simp (l, n, b)) (λ l. simp (l, ih))
 
 -- Merging a live visit that reaches only live ones, and forgetting expired ones, go in either order.
-merged-order : (t : Terms) (u w : Visit) → u .from ≤ u .to → merged u w .from ≤ merged u w .to
-merged-order t u w h = omega arith
-
 pub live-merge : (t : Terms) (m : ℕ) (u : Visit) (vs : List Visit) → u .from ≤ u .to → live t m u ≡ true → Reaches-live t m u vs → Apart t vs
     → live-only t m (merge-in t u vs) ≡ merge-in t u (live-only t m vs)
 live-merge t m u [] h l r p = simp l
@@ -113,7 +96,7 @@ live-merge t m u (w ∷ ws) h l r p =
     split (near t u w)
     (λ n.
     let k : live t m w ≡ true = r .0 n in
-    let ih = live-merge t m (merged u w) ws (merged-order t u w h) (merged-live t m u w n l) (merged-reaches t m u w ws n k (p .1) (p .2)) (p .2) in
+    let ih = live-merge t m (merged u w) ws (merged-order u w h) (merged-live t m u w n l) (merged-reaches t m u w ws n k (p .1) (p .2)) (p .2) in
     simp (k, n, ih))
     (λ n. split (visit-before t w u)
     (λ b. let ih = live-merge t m u ws h l (r .1) (p .2) in split (live t m w) (λ k. simp (n, b, k, ih)) (λ k. simp (n, b, k, ih)))
@@ -122,20 +105,6 @@ live-merge t m u (w ∷ ws) h l r p =
     (λ k. let q = stays-first t m u w ws (dead-stop t m u w h (p .0) l k n b) (p .1) in simp (n, b, k, l, q))))
 
 -- The same visit passes the same tests.
-same-parts : (c f l n s c′ f′ l′ n′ s′ : ℕ) → c ≡ c′ → f ≡ f′ → l ≡ l′ → n ≡ n′ → s ≡ s′
-    → _≡_ {A = Visit} (record { card = c; from = f; to = l; count = n; sum = s }) (record { card = c′; from = f′; to = l′; count = n′; sum = s′ })
-same-parts c f l n s c′ f′ l′ n′ s′ p q r u v = cc
-
-pub same-visits : (t : Terms) (v w : Visit) → same-visit t v w ≡ true → v ≡ w
-unfolding same-visit
-same-visits t v w h =
-    same-parts (v .card) (v .from) (v .to) (v .count) (v .sum) (w .card) (w .from) (w .to) (w .count) (w .sum)
-    (grind (arith, tells)) (grind (arith, tells)) (grind (arith, tells)) (grind (arith, tells)) (grind (arith, tells))
-
-pub same-itself : (t : Terms) (v : Visit) → same-visit t v v ≡ true
-unfolding same-visit
-same-itself t v = grind (arith, tells)
-
 pub differ : (t : Terms) (p : Visit → Bool) (v w : Visit) → p v ≡ false → p w ≡ true → same-visit t v w ≡ false
 differ t p v w a b =
     split (same-visit t v w) (λ o. let e = same-visits t v w o in cc) (λ o. o)
@@ -143,7 +112,7 @@ differ t p v w a b =
 -- An expired visit is among the merged ones if it was there before.
 pub dead-merge : (t : Terms) (m : ℕ) (v : Visit) → live t m v ≡ false → (u : Visit) (vs : List Visit) → live t m u ≡ true → Reaches-live t m u vs → Apart t vs
     → some (same-visit t v) (merge-in t u vs) ≡ some (same-visit t v) vs
-dead-merge t m v d u [] l r p = let q = differ t (live t m) v u d l in simp q
+dead-merge t m v d u [] l r p = simp (differ t (live t m) v u d l)
 dead-merge t m v d u (w ∷ ws) l r p =
     split (near t u w)
     (λ n.
@@ -155,31 +124,13 @@ dead-merge t m v d u (w ∷ ws) l r p =
     (λ b. let ih = dead-merge t m v d u ws l (r .1) (p .2) in simp (n, b, ih))
     (λ b. let q = differ t (live t m) v u d l in simp (n, b, q)))
 
--- A visit is among those that pass a test if it passes and is among all.
-pub some-kept : (t : Terms) (p : Visit → Bool) (v : Visit) (ws : List Visit) → some (same-visit t v) (kept-by p ws) ≡ (p v && some (same-visit t v) ws)
-some-kept t p v [] = split (p v) (λ o. simp o) (λ o. simp o)
-some-kept t p v (w ∷ ws) =
-    let ih = some-kept t p v ws in
-    split (same-visit t v w)
-    (λ o. let e : p v ≡ p w = ap p (same-visits t v w o) in split (p w) (λ k. let j = e ∙ k in simp (k, o, j)) (λ k. let j = e ∙ k in simp (k, o, ih, j)))
-    (λ o. split (p w) (λ k. simp (k, o, ih)) (λ k. simp (k, o, ih)))
-
-pub all-in-itself : (t : Terms) (vs : List Visit) → All (λ v. some (same-visit t v) vs ≡ true) vs
-all-in-itself t [] = tt
-all-in-itself t (v ∷ vs) =
-    let s = same-itself t v in
-    (simp s, all-weaker (λ x. some (same-visit t x) vs ≡ true) (λ x. some (same-visit t x) (v ∷ vs) ≡ true) (more v vs) vs (all-in-itself t vs))
-  where
-    more : (v : Visit) (vs : List Visit) (x : Visit) → some (same-visit t x) vs ≡ true → some (same-visit t x) (v ∷ vs) ≡ true
-    more v vs x h = split (same-visit t x v) (λ o. simp o) (λ o. simp (o, h))
-
 -- Expired visits that are in both lists, and closed in both, are in no difference of the closed ones.
 -- p closed before, q closed now, l live
 difference-kept : (p q l i : Bool) → (l ≡ false → (p ≡ true) × (q ≡ true)) → (l ≡ false → i ≡ true) → (p && not (q && i)) ≡ ((l && p) && not (l && (q && i)))
 difference-kept true true true i h k = refl
 difference-kept true false true i h k = refl
 difference-kept false q true i h k = refl
-difference-kept true true false i h k = let j = k refl in simp j
+difference-kept true true false i h k = simp (k refl)
 difference-kept true false false i h k = sym (h refl .1)
 difference-kept false true false i h k = refl
 difference-kept false false false i h k = refl
@@ -197,17 +148,13 @@ pub difference-live : (t : Terms) (m n k : ℕ) (vs ws : List Visit)
     → difference t (closed-visits t n vs) (closed-visits t k ws) ≡ difference t (closed-visits t n (live-only t m vs)) (closed-visits t k (live-only t m ws))
 difference-live t m n k vs ws c d =
     difference-is t (closed t n) (closed t k) vs ws
-    ∙ kept-same (λ v. closed t n v && not (closed t k v && some (same-visit t v) ws)) (λ v. (live t m v && closed t n v) && not (live t m v && (closed t k v && some (same-visit t v) ws))) vs
+    ∙ kept-agree (λ v. closed t n v && not (closed t k v && some (same-visit t v) ws)) (λ v. (live t m v && closed t n v) && not (live t m v && (closed t k v && some (same-visit t v) ws))) vs
     (all-weaker (λ v. some (same-visit t v) vs ≡ true)
     (λ v. (closed t n v && not (closed t k v && some (same-visit t v) ws)) ≡ ((live t m v && closed t n v) && not (live t m v && (closed t k v && some (same-visit t v) ws))))
-    (λ v h. difference-kept (closed t n v) (closed t k v) (live t m v) (some (same-visit t v) ws) (c v) (λ o. sym (d v o) ∙ h)) vs (all-in-itself t vs))
+    (λ v h. difference-kept (closed t n v) (closed t k v) (live t m v) (some (same-visit t v) ws) (c v) (λ o. sym (d v o) ∙ h)) vs (all-in t vs))
     ∙ sym (rw (kept-twice (closed t n) (live t m) vs, kept-twice (closed t k) (live t m) ws) (difference-is t (λ v. live t m v && closed t n v) (λ v. live t m v && closed t k v) vs ws
     ∙ kept-alike (λ v. (live t m v && closed t n v) && not ((live t m v && closed t k v) && some (same-visit t v) ws)) (λ v. (live t m v && closed t n v) && not (live t m v && (closed t k v && some (same-visit t v) ws)))
     (λ v. ap (λ (b : Bool). (live t m v && closed t n v) && not b) (and-assoc (live t m v) (closed t k v) (some (same-visit t v) ws))) vs))
-  where
-    and-assoc : (a b c : Bool) → ((a && b) && c) ≡ (a && (b && c))
-    and-assoc true b c = refl
-    and-assoc false b c = refl
 
 -- A reading that is not too late is found among the kept ones if it is among all.
 late-differs : (t : Terms) (m : ℕ) (e x : Reading) → too-late t m e ≡ false → too-late t m x ≡ true → same-reading t e x ≡ false
@@ -236,7 +183,7 @@ insert-first t m e x (y ∷ ys) h k o a =
 
 pub insert-kept : (t : Terms) (m : ℕ) (e : Reading) (xs : List Reading) → too-late t m e ≡ false → Sorted-readings t xs
     → insert-reading t e (kept-only t m xs) ≡ kept-only t m (insert-reading t e xs)
-insert-kept t m e [] h s = let k = timely-kept t m e h in simp k
+insert-kept t m e [] h s = simp (timely-kept t m e h)
 insert-kept t m e (x ∷ xs) h s =
     let j = timely-kept t m e h in
     let ih = insert-kept t m e xs h (s .1) in

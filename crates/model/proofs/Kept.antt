@@ -1,6 +1,6 @@
 -- What the store keeps: how much, and for what.
 use mathlib.Core.Path.{_≡_, refl, sym, ap, _∙_, subst}
-use mathlib.Core.Bool.{Bool, true, false, not, _&&_, _||_}
+use mathlib.Core.Bool.{Bool, true, false, not, _||_}
 use mathlib.Core.List.{List, [], _∷_}
 use Prim.Native.Nat.{ℕ, zero, suc, _-_, _<_, _≤_, max}
 use native.Mathlib.Omega.{arith}
@@ -9,7 +9,7 @@ use lib.ListN.{length}
 use Rattle.std.specs.shelf.Lists.{All, kept-by}
 use Rattle.std.proofs.shelf.Elements.{all-weaker, kept-by-passes}
 use Rattle.std.proofs.shelf.Lists.{nil-from-length}
-use Rattle.std.proofs.shelf.Tests.{or-parts}
+use Rattle.std.proofs.shelf.Tests.{both-ways, or-parts, or-right}
 use Rattle.std.proofs.shelf.Ways.{tells}
 use Rattle.visit.specs.declared.Reading.{Reading}
 use Rattle.visit.specs.declared.Terms.{Terms}
@@ -23,9 +23,8 @@ use Rattle.model.specs.Kept.{Holds, Little-kept, May-change, Needs-all, Nothin
 use Rattle.model.specs.Reference.{Reference, after, empty}
 use Rattle.model.specs.Sessions.{contains, prepend, some, visits}
 use Rattle.model.specs.Store.{Store, kept-only, live-only, merge-in, store-outcome, store-step}
-use Rattle.model.proofs.Order.{Apart, Follows, Sorted-readings, reference-sorted, split, visits-apart}
-use Rattle.model.proofs.Expiry.{all-in-itself, same-visits, some-kept}
-use Rattle.model.proofs.Totals.{all-some, apart-kept, follows-outside}
+use Rattle.model.proofs.Common.{absent-kept, all-both, all-in, all-some, fewer-differs, kept-shorter, same-visits, split}
+use Rattle.model.proofs.Order.{Apart, Follows, Sorted-readings, absent-behind, apart-kept, apart-order, reference-sorted, visits-apart}
 use Rattle.model.proofs.Mirror.{all-kept, image}
 
 -- A live visit for each recent reading at most: a visit is as live as its last reading is recent.
@@ -75,9 +74,6 @@ kept-timely : (t : Terms) (m : ℕ) (e : Reading) → kept t m e ≡ true → to
 unfolding kept too-late
 kept-timely t m e h = grind (arith, tells)
 
-contains-later : (t : Terms) (y : Reading) (xs : List Reading) (x : Reading) → contains t x xs ≡ true → contains t x (y ∷ xs) ≡ true
-contains-later t y xs x h = split (same-reading t x y) (λ o. simp o) (λ o. simp (o, h))
-
 kept-again : (t : Terms) (m : ℕ) (es : List Reading) → All (λ e. (too-late t m e ≡ false) × (contains t e (kept-only t m es) ≡ true)) (kept-only t m es)
 kept-again t m [] = tt
 kept-again t m (e ∷ es) =
@@ -88,31 +84,23 @@ kept-again t m (e ∷ es) =
     simp o (
       (kept-timely t m e o, simp s),
       all-weaker (λ x. (too-late t m x ≡ false) × (contains t x (kept-only t m es) ≡ true)) (λ x. (too-late t m x ≡ false) × (contains t x (e ∷ kept-only t m es) ≡ true))
-          (λ x h. (h .0, contains-later t e (kept-only t m es) x (h .1))) (kept-only t m es) ih,
+          (λ x h. (h .0, or-right (same-reading t x e) (contains t x (kept-only t m es)) (h .1))) (kept-only t m es) ih,
     ))
     (λ o. simp o ih)
 
 refused-again : (t : Terms) (s : Store) (e : Reading) → (too-late t (s .watermark) e ≡ false) × (contains t e (s .seen) ≡ true) → store-outcome t s (A-reading e) ≡ refused (Duplicate (e .time))
-refused-again t s e h = let a = h .0 in let b = h .1 in simp (a, b)
+refused-again t s e h = simp (h .0, h .1)
 
 -- A visit that is near to one that is merged in is there no more: what is made has more readings.
-outgrown : (t : Terms) (v u : Visit) → v .count < u .count → same-visit t v u ≡ false
-unfolding same-visit
-outgrown t v u h = grind (arith, tells)
-
 outgrown-merge : (t : Terms) (v u : Visit) (ws : List Visit) → v .count < u .count → some (same-visit t v) ws ≡ false → some (same-visit t v) (merge-in t u ws) ≡ false
-outgrown-merge t v u [] h n = let q = outgrown t v u h in simp q
+outgrown-merge t v u [] h n = simp (fewer-differs t u v h .0)
 outgrown-merge t v u (w ∷ ws) h n =
-    let q = outgrown t v u h in
-    split (same-visit t v w)
-    (λ s. absurd (let z : some (same-visit t v) (w ∷ ws) ≡ true = simp s in let y : _≡_ {A = ℕ} 0 1 = cc (z, n) in omega arith))
-    (λ s.
-    let n′ : some (same-visit t v) ws ≡ false = sym (ap (λ (b : Bool). b || some (same-visit t v) ws) s) ∙ n in
+    let d = or-parts (same-visit t v w) (some (same-visit t v) ws) n in
     split (near t u w)
-    (λ o. let k : v .count < merged u w .count = omega arith in let ih = outgrown-merge t v (merged u w) ws k n′ in simp (o, ih))
+    (λ o. simp (o, outgrown-merge t v (merged u w) ws (omega arith) (d .1)))
     (λ o. split (visit-before t w u)
-    (λ b. let ih = outgrown-merge t v u ws h n′ in simp (o, b, s, ih))
-    (λ b. simp (o, b, q, s, n′))))
+    (λ b. simp (o, b, d .0, outgrown-merge t v u ws h (d .1)))
+    (λ b. simp (o, b, fewer-differs t u v h .0, d .0, d .1)))
 
 wider-near : (t : Terms) (u w v : Visit) → near t u w ≡ true → near t u v ≡ true → near t (merged u w) v ≡ true
 unfolding near
@@ -124,7 +112,7 @@ near-stop t u w v h n b f = grind (arith, tells)
 
 pub near-merge : (t : Terms) (v u : Visit) (ws : List Visit) → Apart t ws → 1 ≤ u .count → near t u v ≡ true → some (same-visit t v) ws ≡ true
     → some (same-visit t v) (merge-in t u ws) ≡ false
-near-merge t v u [] p h n i = absurd (let z : _≡_ {A = ℕ} 0 1 = cc i in omega arith)
+near-merge t v u [] p h n i = absurd (both-ways false refl i)
 near-merge t v u (w ∷ ws) p h n i =
     split (same-visit t v w)
     (λ s.
@@ -132,7 +120,7 @@ near-merge t v u (w ∷ ws) p h n i =
     let n′ : near t u w ≡ true = subst (λ (x : Visit). near t u x ≡ true) e n in
     let c : v .count ≡ w .count = ap (λ (x : Visit). x .count) e in
     let k : v .count < merged u w .count = omega arith in
-    let o : some (same-visit t v) ws ≡ false = subst (λ (x : Visit). some (same-visit t x) ws ≡ false) (sym e) (follows-outside t w ws (p .0) (p .1)) in
+    let o : some (same-visit t v) ws ≡ false = subst (λ (x : Visit). some (same-visit t x) ws ≡ false) (sym e) (absent-behind t w ws (p .0) (p .1)) in
     let q = outgrown-merge t v (merged u w) ws k o in
     simp (n′, q))
     (λ s.
@@ -144,7 +132,7 @@ near-merge t v u (w ∷ ws) p h n i =
     simp (o, ih))
     (λ o. split (visit-before t w u)
     (λ b. let ih = near-merge t v u ws (p .2) h n j in simp (o, b, s, ih))
-    (λ b. absurd (let f = near-stop t u w v (p .0) o b (all-some t (Follows t w) v ws (p .1) j) in let z : _≡_ {A = ℕ} 0 1 = cc (f, n) in omega arith))))
+    (λ b. absurd (both-ways (near t u v) (near-stop t u w v (p .0) o b (all-some t (Follows t w) v ws (p .1) j)) n))))
 
 -- Of readings that are n at most, some serial up to n is not used.
 abbrev used : ℕ → List Reading → Bool
@@ -153,15 +141,11 @@ used n xs = some (λ x. eqb (x .serial) n) xs
 abbrev without : ℕ → List Reading → List Reading
 without n xs = kept-by (λ x. not (eqb (x .serial) n)) xs
 
-without-short : (n : ℕ) (xs : List Reading) → length (without n xs) ≤ length xs
-without-short n [] = omega arith
-without-short n (x ∷ xs) = let ih = without-short n xs in split (eqb (x .serial) n) (λ o. simp o (omega arith)) (λ o. simp o (omega arith))
-
 without-shorter : (n : ℕ) (xs : List Reading) → used n xs ≡ true → length (without n xs) < length xs
-without-shorter n [] h = absurd (let z : _≡_ {A = ℕ} 0 1 = cc h in omega arith)
+without-shorter n [] h = absurd (both-ways false refl h)
 without-shorter n (x ∷ xs) h =
     split (eqb (x .serial) n)
-    (λ o. let k = without-short n xs in simp o (omega arith))
+    (λ o. let k = kept-shorter (λ y. not (eqb (y .serial) n)) xs in simp o (omega arith))
     (λ o. let ih = without-shorter n xs (sym (ap (λ (b : Bool). b || used n xs) o) ∙ h) in simp o (omega arith))
 
 unused-without : (n k : ℕ) (xs : List Reading) → k < n → used k (without n xs) ≡ used k xs
@@ -177,7 +161,6 @@ unused-serial (suc n) xs h =
     (λ o.
     let l = without-shorter (suc n) xs o in
     let ih = unused-serial n (without (suc n) xs) (omega arith) in
-    let le = ih .1 in
     (ih .0, omega arith, sym (unused-without (suc n) (ih .0) xs (omega arith)) ∙ ih .2))
     (λ o. (suc n, omega arith, o))
 
@@ -189,9 +172,7 @@ unused-new : (t : Terms) (e : Reading) (xs : List Reading) → used (e .serial) 
 unused-new t e [] h = refl
 unused-new t e (x ∷ xs) h =
     let k = or-parts (eqb (x .serial) (e .serial)) (used (e .serial) xs) h in
-    let q = unused-differs t e x (k .0) in
-    let ih = unused-new t e xs (k .1) in
-    simp (q, ih)
+    simp (unused-differs t e x (k .0), unused-new t e xs (k .1))
 
 -- A reading at a visit's end, or as late as may be after it, is not too late while the visit is live, and near to it.
 abbrev reaching : Terms → ℕ → Visit → ℕ → Reading
@@ -208,10 +189,6 @@ reaching-near t m v n h l = grind (arith, tells)
 reading-live : (t : Terms) (s : Store) (e : Reading) → too-late t (s .watermark) e ≡ false → contains t e (s .seen) ≡ false
     → store-step t s (A-reading e) .live ≡ live-only t (s .watermark) (merge-in t (single e) (s .live))
 reading-live t s e a b = simp (a, b)
-
-and-no : (b : Bool) → (b && false) ≡ false
-and-no true = refl
-and-no false = refl
 
 may-change : (t : Terms) (s : Store) → Apart t (s .live) → (v : Visit) → (v .from ≤ v .to) × (live t (s .watermark) v ≡ true) × (some (same-visit t v) (s .live) ≡ true) → May-change t s v
 may-change t s p v h =
@@ -231,19 +208,9 @@ may-change t s p v h =
         unseen = b;
         changes =
             ap (λ (vs : List Visit). some (same-visit t v) vs) (reading-live t s e a b)
-            ∙ some-kept t (live t (s .watermark)) v (merge-in t (single e) (s .live))
-            ∙ ap (λ (x : Bool). live t (s .watermark) v && x) g
-            ∙ and-no (live t (s .watermark) v);
+            ∙ absent-kept t (live t (s .watermark)) v (merge-in t (single e) (s .live)) g;
       },
     )
-
-all-both : {X : Type 0} (P Q R : X → Type 0) (xs : List X) → All P xs → All Q xs → All R xs → All (λ x. P x × Q x × R x) xs
-all-both P Q R [] a b c = tt
-all-both P Q R (x ∷ xs) a b c = ((a .0, b .0, c .0), all-both P Q R xs (a .1) (b .1) (c .1))
-
-apart-order : (t : Terms) (vs : List Visit) → Apart t vs → All (λ v. v .from ≤ v .to) vs
-apart-order t [] p = tt
-apart-order t (v ∷ vs) p = (p .0, apart-order t vs (p .2))
 
 pub image-needs : (t : Terms) (k : Reference) → Sorted-readings t (k .readings) → Needs-all t (image t k)
 image-needs t k s =
@@ -255,9 +222,10 @@ image-needs t k s =
           (λ e. store-outcome t (image t k) (A-reading e) ≡ refused (Duplicate (e .time)))
           (refused-again t (image t k)) (kept-only t (k .watermark) (k .readings)) (kept-again t (k .watermark) (k .readings));
       visits =
-          all-weaker (λ v. (v .from ≤ v .to) × (live t (k .watermark) v ≡ true) × (some (same-visit t v) vs ≡ true)) (May-change t (image t k)) (may-change t (image t k) p) vs
-          (all-both (λ v. v .from ≤ v .to) (λ v. live t (k .watermark) v ≡ true) (λ v. some (same-visit t v) vs ≡ true) vs
-          (apart-order t vs p) (kept-by-passes (live t (k .watermark)) (visits t (k .readings))) (all-in-itself t vs));
+          all-weaker (λ v. (v .from ≤ v .to) × ((live t (k .watermark) v ≡ true) × (some (same-visit t v) vs ≡ true))) (May-change t (image t k))
+          (λ v h. may-change t (image t k) p v (h .0, h .1 .0, h .1 .1)) vs
+          (all-both (λ v. v .from ≤ v .to) (λ v. (live t (k .watermark) v ≡ true) × (some (same-visit t v) vs ≡ true)) vs (apart-order t vs p)
+          (all-both (λ v. live t (k .watermark) v ≡ true) (λ v. some (same-visit t v) vs ≡ true) vs (kept-by-passes (live t (k .watermark)) (visits t (k .readings))) (all-in t vs)));
     }
 
 pub nothing-in-vain : Nothing-in-vain

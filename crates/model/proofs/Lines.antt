@@ -17,7 +17,7 @@ use Rattle.visit.specs.Lines.{line-before, line-minus, line-of, line-plus, same
 use Rattle.model.specs.Ledger.{add-line, add-visits, take-line, take-visits, totals}
 use Rattle.model.specs.Store.{booked}
 use Rattle.model.specs.Unseen.{Lined, Totals-right, entry, lines-for, visits-for}
-use Rattle.model.proofs.Order.{split}
+use Rattle.model.proofs.Common.{kept-none, split}
 use Rattle.model.proofs.Totals.{key-after, key-through, line-parts, one-visit, plus-before}
 
 -- Adding a line keeps a ledger in order.
@@ -37,7 +37,6 @@ pub lined-line : (t : Terms) (a : Line) (ls : List Line) → 1 ≤ a .visits →
 lined-line t a [] h p = (h, tt, tt)
 lined-line t a (x ∷ xs) h p =
     let ih = lined-line t a xs h (p .2) in
-    let p0 = p .0 in
     split (line-before t x a)
     (λ o. simp o (p .0, before-line t x a xs o (p .1), ih))
     (λ o. split (same-key t x a)
@@ -154,11 +153,8 @@ unfolding line-before
 other-key t card day l x h b = grind (arith, tells)
 
 none-after : (t : Terms) (card day : ℕ) (l : Line) (ls : List Line) → has-key card day l ≡ true → All (λ x. line-before t l x ≡ true) ls → lines-for card day ls ≡ []
-none-after t card day l [] h a = refl
-none-after t card day l (x ∷ xs) h a =
-    let q = other-key t card day l x h (a .0) in
-    let ih = none-after t card day l xs h (a .1) in
-    simp (q, ih)
+none-after t card day l ls h a =
+    kept-none (has-key card day) ls (all-weaker (λ x. line-before t l x ≡ true) (λ x. has-key card day x ≡ false) (λ x b. other-key t card day l x h b) ls a)
 
 one-entry : (card day : ℕ) (l : Line) → has-key card day l ≡ true → 1 ≤ l .visits → l ∷ [] ≡ entry card day (0 + l .visits) (0 + l .sum)
 one-entry card day l h p =

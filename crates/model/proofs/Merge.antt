@@ -1,11 +1,11 @@
 -- A visit merged into visits that are in order and apart.
 use mathlib.Core.Path.{_≡_, refl, sym, ap, _∙_}
-use mathlib.Core.Bool.{Bool, true, false, cond}
+use mathlib.Core.Bool.{true, false, cond}
 use mathlib.Core.List.{List, [], _∷_, _++_}
-use Prim.Native.Nat.{ℕ, _+_, _≤_, min, max}
+use Prim.Native.Nat.{_≤_}
 use native.Mathlib.Omega.{arith}
 use lib.ListN.{length}
-use Rattle.std.specs.shelf.Lists.{All, kept-by}
+use Rattle.std.specs.shelf.Lists.{All}
 use Rattle.std.proofs.shelf.Elements.{all-weaker}
 use Rattle.std.proofs.shelf.Tests.{cond-false, cond-true}
 use Rattle.std.proofs.shelf.Ways.{tells}
@@ -17,12 +17,8 @@ use Rattle.visit.specs.Visits.{grown, joins, merged, near, single, visit-before
 use Rattle.model.specs.Sessions.{insert-reading, prepend, visits}
 use Rattle.model.specs.Few.{merged-with, near-ones}
 use Rattle.model.specs.Store.{merge-in}
-use Rattle.model.proofs.Order.{Apart, Follows, Not-after, Sorted-readings, sorted-not-after, split, unpassed-not-after, before-not-after, unpassed-next, visits-apart, visits-not-after}
-
--- Visits of the same parts are the same.
-same-parts : (c f l n s c′ f′ l′ n′ s′ : ℕ) → c ≡ c′ → f ≡ f′ → l ≡ l′ → n ≡ n′ → s ≡ s′
-    → _≡_ {A = Visit} (record { card = c; from = f; to = l; count = n; sum = s }) (record { card = c′; from = f′; to = l′; count = n′; sum = s′ })
-same-parts c f l n s c′ f′ l′ n′ s′ p q r u v = cc
+use Rattle.model.proofs.Common.{all-both, kept-agree, kept-none, same-parts, split}
+use Rattle.model.proofs.Order.{Apart, Follows, Not-after, Sorted-readings, all-follow, apart-order, before-not-after, merged-order, sorted-not-after, unpassed-next, unpassed-not-after, visits-apart, visits-not-after}
 
 -- A reading x that is not after a visit u, as a visit of its own: near to u if it joins u, else before u.
 near-joins : (t : Terms) (x : Reading) (u : Visit) → Not-after x u → u .from ≤ u .to → near t u (single x) ≡ joins t x u
@@ -48,14 +44,12 @@ joined-time t x u l h o = (grind (arith, tells), grind (arith, tells), grind (ar
 merged-single : (t : Terms) (x : Reading) (u : Visit) → Not-after x u → u .from ≤ u .to → joins t x u ≡ true → merged u (single x) ≡ grown x u
 merged-single t x u l h o =
     let k = joined-time t x u l h o in
-    same-parts (u .card) (min (u .from) (x .time)) (max (u .to) (x .time)) (u .count + 1) (u .sum + x .amount) (u .card) (x .time) (u .to) (u .count + 1) (u .sum + x .amount)
-    refl (omega arith) (omega arith) refl refl
+    same-parts (merged u (single x)) (grown x u) refl (omega arith) (omega arith) refl refl
 
 single-merged : (t : Terms) (x : Reading) (u : Visit) → Not-after x u → u .from ≤ u .to → joins t x u ≡ true → merged (single x) u ≡ grown x u
 single-merged t x u l h o =
     let k = joined-time t x u l h o in
-    same-parts (x .card) (min (x .time) (u .from)) (max (x .time) (u .to)) (1 + u .count) (x .amount + u .sum) (u .card) (x .time) (u .to) (u .count + 1) (u .sum + x .amount)
-    (k .0) (omega arith) (omega arith) (omega arith) (omega arith)
+    same-parts (merged (single x) u) (grown x u) (k .0) (omega arith) (omega arith) (omega arith) (omega arith)
 
 -- What stands apart from a visit stays as it is.
 follows-far : (t : Terms) (u v : Visit) → u .from ≤ u .to → v .from ≤ v .to → Follows t u v → (near t u v ≡ false) × (visit-before t v u ≡ false)
@@ -97,12 +91,7 @@ grown-merged : (t : Terms) (x : Reading) (w v : Visit) → joins t x w ≡ true 
 unfolding joins near
 grown-merged t x w v o n l =
     let k : x .time ≤ v .from = grind (arith, tells) in
-    same-parts (w .card) (min (x .time) (v .from)) (max (w .to) (v .to)) ((w .count + 1) + v .count) ((w .sum + x .amount) + v .sum)
-    (w .card) (x .time) (max (w .to) (v .to)) ((w .count + v .count) + 1) ((w .sum + v .sum) + x .amount)
-    refl (omega arith) refl (omega arith) (omega arith)
-
-merged-order : (w v : Visit) → w .from ≤ w .to → min (w .from) (v .from) ≤ max (w .to) (v .to)
-merged-order w v h = omega arith
+    same-parts (merged (grown x w) v) (grown x (merged w v)) refl (omega arith) refl (omega arith) (omega arith)
 
 joins-through : (t : Terms) (x : Reading) (w : Visit) (vs : List Visit) → joins t x w ≡ true → w .from ≤ w .to → All (Not-after x) vs → Apart t vs
     → prepend t x (merge-in t w vs) ≡ merge-in t (grown x w) vs
@@ -135,9 +124,7 @@ merged-grown : (t : Terms) (x : Reading) (u v : Visit) → Not-after x u → joi
 unfolding joins near
 merged-grown t x u v l o n =
     let k : x .time ≤ u .from = grind (arith, tells) in
-    same-parts (u .card) (min (u .from) (x .time)) (max (u .to) (v .to)) (u .count + (v .count + 1)) (u .sum + (v .sum + x .amount))
-    (u .card) (x .time) (max (u .to) (v .to)) ((u .count + v .count) + 1) ((u .sum + v .sum) + x .amount)
-    refl (omega arith) refl (omega arith) (omega arith)
+    same-parts (merged u (grown x v)) (grown x (merged u v)) refl (omega arith) refl (omega arith) (omega arith)
 
 follows-unjoined : (t : Terms) (x : Reading) (v : Visit) → Not-after x v → v .from ≤ v .to → (w : Visit) → Follows t v w → joins t x w ≡ false
 unfolding joins
@@ -233,12 +220,6 @@ stopped-follows : (t : Terms) (u v : Visit) → v .from ≤ v .to → u .from �
 unfolding near visit-before
 stopped-follows t u v h k n b = (grind (arith, tells), grind (arith, tells))
 
-follows-follows : (t : Terms) (u v : Visit) → Follows t u v → v .from ≤ v .to → (w : Visit) → Follows t v w → Follows t u w
-follows-follows t u v f h w g = (omega arith, grind arith)
-
-all-follow : (t : Terms) (u v : Visit) (vs : List Visit) → Follows t u v → v .from ≤ v .to → All (Follows t v) vs → All (Follows t u) vs
-all-follow t u v vs f h a = all-weaker (Follows t v) (Follows t u) (follows-follows t u v f h) vs a
-
 pub merge-keeps-apart : (t : Terms) (u : Visit) (vs : List Visit) → u .from ≤ u .to → Apart t vs → Apart t (merge-in t u vs)
 merge-keeps-apart t u [] h p = (h, tt, tt)
 merge-keeps-apart t u (v ∷ vs) h p =
@@ -265,23 +246,11 @@ follows-not-near : (t : Terms) (u : Visit) → (w : Visit) → Follows t u w →
 unfolding near
 follows-not-near t u w f = grind (arith, tells)
 
-pub kept-same : {X : Type 0} (p q : X → Bool) (xs : List X) → All (λ x. p x ≡ q x) xs → kept-by p xs ≡ kept-by q xs
-kept-same p q [] a = refl
-kept-same p q (x ∷ xs) a = simp (a .0, kept-same p q xs (a .1))
-
-pub kept-none : {X : Type 0} (p : X → Bool) (xs : List X) → All (λ x. p x ≡ false) xs → kept-by p xs ≡ []
-kept-none p [] a = refl
-kept-none p (x ∷ xs) a = simp (a .0, kept-none p xs (a .1))
-
-apart-orders : (t : Terms) (P : Visit → Type 0) (vs : List Visit) → Apart t vs → All P vs → All (λ v. P v × (v .from ≤ v .to)) vs
-apart-orders t P [] p a = tt
-apart-orders t P (v ∷ vs) p a = ((a .0, p .0), apart-orders t P vs (p .2) (a .1))
-
 near-ones-same : (t : Terms) (u v : Visit) (vs : List Visit) → u .from ≤ u .to → near t u v ≡ true → v .from ≤ v .to → All (Follows t v) vs → Apart t vs
     → near-ones t (merged u v) vs ≡ near-ones t u vs
 near-ones-same t u v vs h n k a p =
-    kept-same (near t (merged u v)) (near t u) vs
-    (all-weaker (λ w. Follows t v w × (w .from ≤ w .to)) (λ w. near t (merged u v) w ≡ near t u w) (near-same t u v h n k) vs (apart-orders t (Follows t v) vs p a))
+    kept-agree (near t (merged u v)) (near t u) vs
+    (all-weaker (λ w. Follows t v w × (w .from ≤ w .to)) (λ w. near t (merged u v) w ≡ near t u w) (near-same t u v h n k) vs (all-both (Follows t v) (λ w. w .from ≤ w .to) vs a (apart-order t vs p)))
 
 -- Where none is passed: the near ones stand first, and become one.
 abbrev Reached : Terms → Visit → List Visit → Type 0

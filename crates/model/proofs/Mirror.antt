@@ -25,10 +25,11 @@ use Rattle.model.specs.Reference.{Reference, after, bounded-after, bounded-out
 use Rattle.model.specs.Sessions.{changes, closed-visits, contains, difference, insert-reading, some, visits}
 use Rattle.model.specs.Store.{Draft, Store, booked, closed-after, closed-before, draft, empty-store, finish, kept-only, live-only, merge-in, store-after, store-by, store-outcome, store-outcome-by, store-outcomes, store-step}
 use Rattle.model.specs.Unseen.{Bounded-unseen, Forgetting-unseen, bounded-draft, bounded-store-after, bounded-store-outcomes}
+use Rattle.model.proofs.Common.{split}
 use Rattle.model.proofs.Merge.{insert-merges}
-use Rattle.model.proofs.Order.{Sorted-readings, insert-sorted, split, visits-apart}
+use Rattle.model.proofs.Order.{Sorted-readings, apart-kept, insert-sorted, step-sorted, visits-apart}
 use Rattle.model.proofs.Expiry.{contains-kept, dead-closed, dead-merge, difference-live, insert-kept, kept-only-twice, live-merge, live-twice, timely-live, timely-reaches}
-use Rattle.model.proofs.Totals.{apart-kept, booked-right}
+use Rattle.model.proofs.Totals.{booked-right}
 
 -- The store that stands for a reference, with a ledger.
 abbrev pub mirror : Terms → Reference → List Line → Store
@@ -163,10 +164,6 @@ step-by-mirror : (t : Terms) (k : Reference) (p : Result Reference Refusal) → 
 step-by-mirror t k (Ok next) s g = finish-mirror t k next s g
 step-by-mirror t k (Err r) s g = refl
 
-sorted-by : (t : Terms) (k : Reference) (p : Result Reference Refusal) → Sorted-readings t (k .readings) → Goes-on-by t k p → Sorted-readings t (state-by k p .readings)
-sorted-by t k (Ok next) s g = g .sorted
-sorted-by t k (Err r) s g = s
-
 pub outcome-mirror : (t : Terms) (k : Reference) → Sorted-readings t (k .readings) → (c : Command) → store-outcome t (image t k) c ≡ outcome t k c
 outcome-mirror t k s c =
     ap (λ (d : Result Draft Refusal). store-outcome-by t (image t k) d) (draft-mirror t k (ledger-of t k) s c)
@@ -177,16 +174,13 @@ step-mirror t k s c =
     ap (λ (d : Result Draft Refusal). store-by t (image t k) d) (draft-mirror t k (ledger-of t k) s c)
     ∙ step-by-mirror t k (plan t k c) s (plan-goes-on t k s c)
 
-pub step-sorted : (t : Terms) (k : Reference) → Sorted-readings t (k .readings) → (c : Command) → Sorted-readings t (step t k c .readings)
-step-sorted t k s c = sorted-by t k (plan t k c) s (plan-goes-on t k s c)
-
 -- A whole list of commands.
 pub outcomes-mirror : (t : Terms) (k : Reference) → Sorted-readings t (k .readings) → (cs : List Command) → store-outcomes t (image t k) cs ≡ outcomes t k cs
 outcomes-mirror t k s [] = refl
 outcomes-mirror t k s (c ∷ cs) =
     let o = outcome-mirror t k s c in
     let n = step-mirror t k s c in
-    let ih = outcomes-mirror t (step t k c) (step-sorted t k s c) cs in
+    let ih = outcomes-mirror t (step t k c) (step-sorted t k c s) cs in
     ap (λ (x : Outcome). x ∷ store-outcomes t (store-step t (image t k) c) cs) o
     ∙ ap (λ (x : Store). outcome t k c ∷ store-outcomes t x cs) n
     ∙ ap (λ (xs : List Outcome). outcome t k c ∷ xs) ih
@@ -194,7 +188,7 @@ outcomes-mirror t k s (c ∷ cs) =
 pub after-mirror : (t : Terms) (k : Reference) → Sorted-readings t (k .readings) → (cs : List Command) → store-after t (image t k) cs ≡ image t (after t k cs)
 after-mirror t k s [] = refl
 after-mirror t k s (c ∷ cs) =
-    ap (λ (x : Store). store-after t x cs) (step-mirror t k s c) ∙ after-mirror t (step t k c) (step-sorted t k s c) cs
+    ap (λ (x : Store). store-after t x cs) (step-mirror t k s c) ∙ after-mirror t (step t k c) (step-sorted t k c s) cs
 
 pub all-kept : (t : Terms) (cs : List Command) → store-after t empty-store cs ≡ image t (after t empty cs)
 all-kept t cs = after-mirror t empty tt cs
@@ -212,7 +206,7 @@ step-guarded t k s c (Some r) = refl
 
 pub sorted-guarded : (t : Terms) (k : Reference) → Sorted-readings t (k .readings) → (c : Command) (o : Option Refusal)
     → Sorted-readings t (state-by k (or-fault o (plan t k c)) .readings)
-sorted-guarded t k s c None = step-sorted t k s c
+sorted-guarded t k s c None = step-sorted t k c s
 sorted-guarded t k s c (Some r) = s
 
 -- Two reasons, one before the other, are one.

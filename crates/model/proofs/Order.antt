@@ -5,19 +5,20 @@ use mathlib.Core.List.{List, [], _∷_}
 use Prim.Native.Nat.{_+_, _<_, _≤_}
 use native.Mathlib.Omega.{arith}
 use lib.Dec.{ltb}
-use Rattle.std.specs.shelf.Lists.{All}
-use Rattle.std.proofs.shelf.Elements.{all-weaker}
+use Rattle.std.specs.shelf.Lists.{All, kept-by}
+use Rattle.std.proofs.shelf.Elements.{all-kept-by, all-weaker}
 use Rattle.std.proofs.shelf.Tests.{or-parts}
 use Rattle.std.proofs.shelf.Ways.{tells}
 use Rattle.visit.specs.declared.Reading.{Reading}
 use Rattle.visit.specs.declared.Terms.{Terms}
 use Rattle.visit.specs.declared.Visit.{Visit}
 use Rattle.visit.specs.Readings.{gap-of, reading-before, same-reading, too-late}
-use Rattle.visit.specs.Visits.{grown, joins, single}
+use Rattle.visit.specs.Visits.{grown, joins, merged, same-visit, single}
 use Rattle.command.specs.declared.Command.{Command}
 use Rattle.command.specs.declared.Command.the-variants.{Reading as A-reading, Watermark}
 use Rattle.model.specs.Reference.{Reference, after, empty, step}
 use Rattle.model.specs.Sessions.{contains, insert-reading, prepend, visits}
+use Rattle.model.proofs.Common.{Absent, split}
 
 -- Each reading comes before all that follow it.
 abbrev pub Sorted-readings : Terms → List Reading → Type 0
@@ -35,11 +36,6 @@ Follows t v w = (v .card ≤ w .card) × (v .card ≡ w .card → v .to + gap-of
 abbrev pub Apart : Terms → List Visit → Type 0
 Apart t [] = Unit {0}
 Apart t (v ∷ vs) = (v .from ≤ v .to) × All (Follows t v) vs × Apart t vs
-
--- A case split on a test.
-abbrev pub split : {P : Type 0} (b : Bool) → (b ≡ true → P) → (b ≡ false → P) → P
-split true f g = f refl
-split false f g = g refl
 
 -- A reading that comes before another is not after its visit, nor is one that does not come after.
 pub before-not-after : (t : Terms) (x y : Reading) → reading-before t x y ≡ true → Not-after x (single y)
@@ -101,6 +97,36 @@ pub visits-apart : (t : Terms) (xs : List Reading) → Sorted-readings t xs → 
 visits-apart t [] s = tt
 visits-apart t (x ∷ xs) s = prepend-apart t x (visits t xs) (sorted-not-after t x xs (s .0)) (visits-apart t xs (s .1))
 
+-- In visits that stand apart each is in order itself; so is what is made of one that is.
+pub apart-order : (t : Terms) (vs : List Visit) → Apart t vs → All (λ v. v .from ≤ v .to) vs
+apart-order t [] p = tt
+apart-order t (v ∷ vs) p = (p .0, apart-order t vs (p .2))
+
+pub merged-order : (u w : Visit) → u .from ≤ u .to → merged u w .from ≤ merged u w .to
+merged-order u w h = omega arith
+
+-- What follows a visit follows all that this one follows, and a visit is not among those that follow it.
+follows-follows : (t : Terms) (u v : Visit) → Follows t u v → v .from ≤ v .to → (w : Visit) → Follows t v w → Follows t u w
+follows-follows t u v f h w g = (omega arith, grind arith)
+
+pub all-follow : (t : Terms) (u v : Visit) (vs : List Visit) → Follows t u v → v .from ≤ v .to → All (Follows t v) vs → All (Follows t u) vs
+all-follow t u v vs f h a = all-weaker (Follows t v) (Follows t u) (follows-follows t u v f h) vs a
+
+pub follows-differs : (t : Terms) (v w : Visit) → v .from ≤ v .to → Follows t v w → (same-visit t v w ≡ false) × (same-visit t w v ≡ false)
+unfolding same-visit
+follows-differs t v w h f = (grind (arith, tells), grind (arith, tells))
+
+pub absent-behind : (t : Terms) (v : Visit) (vs : List Visit) → v .from ≤ v .to → All (Follows t v) vs → Absent t vs v
+absent-behind t v [] h a = refl
+absent-behind t v (w ∷ ws) h a = simp (follows-differs t v w h (a .0) .0, absent-behind t v ws h (a .1))
+
+-- Visits that pass a test stand apart if all do.
+pub apart-kept : (t : Terms) (p : Visit → Bool) (vs : List Visit) → Apart t vs → Apart t (kept-by p vs)
+apart-kept t p [] a = tt
+apart-kept t p (v ∷ vs) a =
+    let ih = apart-kept t p vs (a .2) in
+    split (p v) (λ o. simp o (a .0, all-kept-by p (Follows t v) vs (a .1), ih)) (λ o. simp o ih)
+
 -- A new reading put at its place keeps readings sorted.
 unpassed-before : (t : Terms) (e x : Reading) → same-reading t e x ≡ false → reading-before t x e ≡ false → reading-before t e x ≡ true
 unfolding same-reading reading-before
@@ -121,7 +147,7 @@ insert-sorted t e (x ∷ xs) c s =
     ((b, all-weaker (λ y. reading-before t x y ≡ true) (λ y. reading-before t e y ≡ true) (λ y h. before-before t e x y b h) xs (s .0)), s)))
 
 -- Every state of the reference is sorted.
-step-sorted : (t : Terms) (k : Reference) (c : Command) → Sorted-readings t (k .readings) → Sorted-readings t (step t k c .readings)
+pub step-sorted : (t : Terms) (k : Reference) (c : Command) → Sorted-readings t (k .readings) → Sorted-readings t (step t k c .readings)
 step-sorted t k (A-reading e) s =
     split (too-late t (k .watermark) e) (λ o. simp o s)
     (λ o. split (contains t e (k .readings)) (λ q. simp (o, q) s) (λ q. simp (o, q) (insert-sorted t e (k .readings) q s)))

@@ -17,8 +17,9 @@ use Rattle.visit.specs.Visits.{grown, joins, single, visit-before}
 use Rattle.model.specs.Reference.{after, empty}
 use Rattle.model.specs.Right.{Goes-on, Right-visit, Unbroken, Visits-right, of-visit, readings-of}
 use Rattle.model.specs.Sessions.{prepend, visits}
-use Rattle.model.proofs.Order.{Apart, Follows, Not-after, Sorted-readings, reference-sorted, sorted-not-after, split, visits-apart}
-use Rattle.model.proofs.Same.{kept-agree, kept-none, rising-at}
+use Rattle.model.proofs.Common.{kept-agree, kept-none, split}
+use Rattle.model.proofs.Order.{Apart, Follows, Not-after, Sorted-readings, reference-sorted, sorted-not-after, visits-apart}
+use Rattle.model.proofs.Same.{rising-at}
 use Rattle.model.proofs.Adding.{apart-rising}
 use Rattle.model.proofs.Cards.{joined-card}
 
@@ -64,7 +65,7 @@ of-single e = grind (arith, tells)
 -- A visit's readings go on from an earlier reading within the gap.
 goes-on : (g first last time : ℕ) (es : List Reading) → Unbroken g first last es → time ≤ first → first ≤ time + g → Goes-on g time es last
 goes-on g first last time [] u a b = absurd u
-goes-on g first last time (e ∷ es) u a b = let q = u .0 in (omega arith, omega arith, u .1)
+goes-on g first last time (e ∷ es) u a b = (omega arith, omega arith, u .1)
 
 -- What is right of a visit depends only on the readings that it has.
 right-like : (t : Terms) (xs ys : List Reading) (v : Visit) → readings-of v ys ≡ readings-of v xs → Right-visit t xs v → Right-visit t ys v
@@ -110,10 +111,9 @@ right-grown t e xs v j l m a r =
     record {
       unbroken = subst (λ (es : List Reading). Unbroken (gap-of t (v .card)) (e .time) (v .to) es) (sym q)
           (refl, goes-on (gap-of t (v .card)) (v .from) (v .to) (e .time) (readings-of v xs) (r .unbroken) l b);
-      count = (let k = r .count in let z : v .count + 1 ≡ length (e ∷ readings-of v xs) = omega arith in z ∙ ap (λ (es : List Reading). length es) (sym q));
+      count = (let z : v .count + 1 ≡ length (e ∷ readings-of v xs) = omega arith in z ∙ ap (λ (es : List Reading). length es) (sym q));
       sum =
-          (let k = r .sum in
-          let s = sumBy-cons (λ x. x .amount) e (readings-of v xs) in
+          (let s = sumBy-cons (λ x. x .amount) e (readings-of v xs) in
           let z : v .sum + e .amount ≡ sumBy (λ x. x .amount) (e ∷ readings-of v xs) = omega arith in
           z ∙ ap (λ (es : List Reading). sumBy (λ x. x .amount) es) (sym q));
     }

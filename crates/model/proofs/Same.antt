@@ -1,6 +1,6 @@
 -- Lists in a strict order: what is in them says what they are.
 use mathlib.Core.Path.{_≡_, refl, sym, ap, _∙_, subst}
-use mathlib.Core.Bool.{Bool, true, false}
+use mathlib.Core.Bool.{Bool, true}
 use mathlib.Core.List.{List, [], _∷_}
 use mathlib.Core.Logic.{_⊎_, inl, inr}
 use Prim.Native.Nat.{ℕ, zero, suc, _<_}
@@ -16,7 +16,8 @@ use Rattle.visit.specs.Readings.{reading-before}
 use Rattle.model.specs.Order.{Any-order}
 use Rattle.model.specs.Reference.{Reference, after, closed-of, empty}
 use Rattle.model.specs.Sessions.{some}
-use Rattle.model.proofs.Order.{Sorted-readings, reference-sorted, split}
+use Rattle.model.proofs.Common.{split}
+use Rattle.model.proofs.Order.{Sorted-readings, reference-sorted}
 
 -- Each element comes before all that follow it.
 abbrev pub Rising-by : {X : Type 0} → (X → X → Bool) → List X → Type 0
@@ -34,7 +35,7 @@ pub has-here : {X : Type 0} (x : X) (xs : List X) → Has (x ∷ xs) x
 has-here x xs = (0, omega arith, λ d. refl)
 
 pub has-there : {X : Type 0} (x : X) (xs : List X) (z : X) → Has xs z → Has (x ∷ xs) z
-has-there x xs z h = let l = h .1 in (suc (h .0), omega arith, λ d. h .2 d)
+has-there x xs z h = (suc (h .0), omega arith, λ d. h .2 d)
 
 has-cases-at : {X : Type 0} (x : X) (xs : List X) (z : X) (k : ℕ) → k < length (x ∷ xs) → At (λ y. y ≡ z) (x ∷ xs) k → (x ≡ z) ⊎ Has xs z
 has-cases-at x xs z zero l e = inl (e z)
@@ -44,7 +45,7 @@ pub has-cases : {X : Type 0} (x : X) (xs : List X) (z : X) → Has (x ∷ xs) z 
 has-cases x xs z h = has-cases-at x xs z (h .0) (h .1) (h .2)
 
 pub has-none : {X : Type 0} (z : X) → Has [] z → ⊥
-has-none z h = let l = h .1 in omega arith
+has-none z h = omega arith
 
 -- Whether some element is z is whether the list has z.
 pub some-decides : {X : Type 0} (test : X → Bool) (z : X) → ((y : X) → Decides (test y) (y ≡ z)) → (xs : List X) → Decides (some test xs) (Has xs z)
@@ -57,21 +58,6 @@ rising-kept before p (x ∷ xs) r =
     split (p x)
     (λ o. simp o (all-kept-by p (λ y. before x y ≡ true) xs (r .0), rising-kept before p xs (r .1)))
     (λ o. simp o (rising-kept before p xs (r .1)))
-
--- Two filters, in either order, and two that agree on every element.
-pub kept-commute : {X : Type 0} (p q : X → Bool) (xs : List X) → kept-by p (kept-by q xs) ≡ kept-by q (kept-by p xs)
-kept-commute p q [] = refl
-kept-commute p q (x ∷ xs) =
-    let ih = kept-commute p q xs in
-    split (p x) (λ o. split (q x) (λ s. simp (o, s, ih)) (λ s. simp (o, s, ih))) (λ o. split (q x) (λ s. simp (o, s, ih)) (λ s. simp (o, s, ih)))
-
-pub kept-agree : {X : Type 0} (p q : X → Bool) (xs : List X) → All (λ x. p x ≡ q x) xs → kept-by p xs ≡ kept-by q xs
-kept-agree p q [] a = refl
-kept-agree p q (x ∷ xs) a = let ih = kept-agree p q xs (a .1) in let h = a .0 in simp (h, ih)
-
-pub kept-none : {X : Type 0} (p : X → Bool) (xs : List X) → All (λ x. p x ≡ false) xs → kept-by p xs ≡ []
-kept-none p [] a = refl
-kept-none p (x ∷ xs) a = let h = a .0 in simp h (kept-none p xs (a .1))
 
 -- Two lists that rise and have the same members are one.
 either-same : {X : Type 0} (before : X → X → Bool) (strict : (x y : X) → before x y ≡ true → before y x ≡ true → ⊥) (x y : X) (xs ys : List X)

@@ -1,24 +1,24 @@
 -- The ledger: the order in which visits are put to it does not matter, and taking undoes adding.
-use mathlib.Core.Path.{_≡_, refl, sym, ap, _∙_, subst}
-use mathlib.Core.Bool.{Bool, true, false, not, _||_}
+use mathlib.Core.Path.{_≡_, refl, sym, ap, _∙_}
+use mathlib.Core.Bool.{Bool, true, false, not, Bool·not-not, and-comm}
 use mathlib.Core.List.{List, [], _∷_}
 use Prim.Native.Nat.{ℕ, _+_, _-_, _≤_}
 use native.Mathlib.Omega.{arith}
 use lib.Dec.{eqb}
 use Rattle.std.specs.shelf.Lists.{All, kept-by}
-use Rattle.std.proofs.shelf.Elements.{all-kept-by, all-weaker}
-use Rattle.std.proofs.shelf.Tests.{or-parts}
 use Rattle.std.proofs.shelf.Ways.{tells}
 use Rattle.visit.specs.declared.Line.{Line}
 use Rattle.visit.specs.declared.Terms.{Terms}
 use Rattle.visit.specs.declared.Visit.{Visit}
 use Rattle.visit.specs.Lines.{line-before, line-minus, line-of, line-plus, same-key}
-use Rattle.visit.specs.Visits.{same-visit}
+use Rattle.visit.specs.Visits.{same-visit, visit-before}
 use Rattle.model.specs.Ledger.{add-line, add-visits, take-line, take-visits, totals}
 use Rattle.model.specs.Sessions.{difference, some}
 use Rattle.model.specs.Store.{booked}
-use Rattle.model.proofs.Order.{Apart, Follows, split}
-use Rattle.model.proofs.Expiry.{same-visits}
+use Rattle.model.proofs.Common.{some-kept, split}
+use Rattle.model.proofs.Order.{Apart}
+use Rattle.model.proofs.Same.{rising-kept}
+use Rattle.model.proofs.Adding.{apart-rising, is-in, same-in}
 
 -- The order of keys.
 pub key-after : (t : Terms) (a b : Line) → line-before t a b ≡ false → same-key t a b ≡ false → line-before t b a ≡ true
@@ -133,7 +133,6 @@ pub filled-line : (t : Terms) (a : Line) (ls : List Line) → 1 ≤ a .visits �
 filled-line t a [] h f = (h, tt)
 filled-line t a (x ∷ xs) h f =
     let ih = filled-line t a xs h (f .1) in
-    let f0 = f .0 in
     split (line-before t x a)
     (λ o. simp o (f .0, ih))
     (λ o. split (same-key t x a) (λ k. simp (o, k) (omega arith, f .1)) (λ k. simp (o, k) (h, f)))
@@ -146,7 +145,7 @@ same-visits-count : (n : ℕ) → eqb n n ≡ true
 same-visits-count n = grind (arith, tells)
 
 pub take-undoes : (t : Terms) (a : Line) (ls : List Line) → Filled ls → take-line t a (add-line t a ls) ≡ ls
-take-undoes t a [] f = let k = key-itself t a .1 in let e = same-visits-count (a .visits) in simp (k, e)
+take-undoes t a [] f = simp (key-itself t a .1, same-visits-count (a .visits))
 take-undoes t a (x ∷ xs) f =
     let ih = take-undoes t a xs (f .1) in
     split (line-before t x a)
@@ -195,92 +194,16 @@ add-parts t p q h (v ∷ vs) ls =
 abbrev pub shared : Terms → List Visit → List Visit → List Visit
 shared t vs ws = kept-by (λ v. some (same-visit t v) ws) vs
 
-same-round : (t : Terms) (v w : Visit) → same-visit t v w ≡ same-visit t w v
-unfolding same-visit
-same-round t v w = grind (arith, tells)
-
--- A visit that is not in a list is of no account to what that shares.
-shared-outside : (t : Terms) (v : Visit) (vs xs : List Visit) → some (same-visit t v) xs ≡ false → shared t xs (v ∷ vs) ≡ shared t xs vs
-shared-outside t v vs [] h = refl
-shared-outside t v vs (x ∷ xs) h =
-    let k = or-parts (same-visit t v x) (some (same-visit t v) xs) h in
-    let o : same-visit t x v ≡ false = same-round t x v ∙ k .0 in
-    let ih = shared-outside t v vs xs (k .1) in
-    simp (o, ih)
-
-shared-none : (t : Terms) (xs : List Visit) → shared t xs [] ≡ []
-shared-none t [] = refl
-shared-none t (x ∷ xs) = shared-none t xs
-
--- A visit is not among those that follow it.
-follows-differs : (t : Terms) (v w : Visit) → v .from ≤ v .to → Follows t v w → same-visit t v w ≡ false
-unfolding same-visit
-follows-differs t v w h f = grind (arith, tells)
-
-pub follows-outside : (t : Terms) (v : Visit) (ws : List Visit) → v .from ≤ v .to → All (Follows t v) ws → some (same-visit t v) ws ≡ false
-follows-outside t v [] h a = refl
-follows-outside t v (w ∷ ws) h a =
-    let q = follows-differs t v w h (a .0) in
-    let ih = follows-outside t v ws h (a .1) in
-    simp (q, ih)
-
-follows-through : (t : Terms) (u v w : Visit) → v .from ≤ v .to → Follows t u v → Follows t v w → Follows t u w
-follows-through t u v w h f g = (omega arith, grind arith)
-
--- What holds of all in a list holds of a visit in it.
-pub all-some : (t : Terms) (P : Visit → Type 0) (v : Visit) (ws : List Visit) → All P ws → some (same-visit t v) ws ≡ true → P v
-all-some t P v [] a h = absurd (let z : _≡_ {A = ℕ} 0 1 = cc h in omega arith)
-all-some t P v (w ∷ ws) a h =
-    split (same-visit t v w) (λ o. subst P (sym (same-visits t v w o)) (a .0)) (λ o. all-some t P v ws (a .1) (sym (ap (λ (b : Bool). b || some (same-visit t v) ws) o) ∙ h))
-
 -- Two lists in order share the same visits, either way round.
-keeps-first : {X : Type 0} (p : X → Bool) (x : X) (xs : List X) → p x ≡ true → kept-by p (x ∷ xs) ≡ x ∷ kept-by p xs
-keeps-first p x xs h = simp h
-
-drops-first : {X : Type 0} (p : X → Bool) (x : X) (xs : List X) → p x ≡ false → kept-by p (x ∷ xs) ≡ kept-by p xs
-drops-first p x xs h = simp h
-
-shared-more : (t : Terms) (v : Visit) (vs : List Visit) → Apart t (v ∷ vs) → ((ws : List Visit) → Apart t ws → shared t vs ws ≡ shared t ws vs)
-    → (ws : List Visit) → Apart t ws → shared t (v ∷ vs) ws ≡ shared t ws (v ∷ vs)
-shared-more t v vs p ih [] q = shared-none t (v ∷ vs)
-shared-more t v vs p ih (w ∷ ws) q =
-    split (some (same-visit t v) (w ∷ ws))
-    (λ i. split (same-visit t v w)
-    (λ s.
-    let e = same-visits t v w s in
-    let s′ : some (same-visit t w) (v ∷ vs) ≡ true = (let r : same-visit t w v ≡ true = same-round t w v ∙ s in simp r) in
-    let a : some (same-visit t w) vs ≡ false = subst (λ (x : Visit). some (same-visit t x) vs ≡ false) e (follows-outside t v vs (p .0) (p .1)) in
-    let b : some (same-visit t v) ws ≡ false = subst (λ (x : Visit). some (same-visit t x) ws ≡ false) (sym e) (follows-outside t w ws (q .0) (q .1)) in
-    keeps-first (λ x. some (same-visit t x) (w ∷ ws)) v vs i
-    ∙ ap (λ (l : List Visit). v ∷ l) (shared-outside t w ws vs a ∙ ih ws (q .2) ∙ sym (shared-outside t v vs ws b))
-    ∙ ap (λ (x : Visit). x ∷ shared t ws (v ∷ vs)) e
-    ∙ sym (keeps-first (λ x. some (same-visit t x) (v ∷ vs)) w ws s′))
-    (λ s.
-    let j : some (same-visit t v) ws ≡ true = sym (ap (λ (b : Bool). b || some (same-visit t v) ws) s) ∙ i in
-    let f : Follows t w v = all-some t (Follows t w) v ws (q .1) j in
-    let a : All (Follows t w) (v ∷ vs) = (f, all-weaker (Follows t v) (Follows t w) (λ x g. follows-through t w v x (p .0) f g) vs (p .1)) in
-    let o = follows-outside t w (v ∷ vs) (q .0) a in
-    shared-outside t w ws (v ∷ vs) o ∙ shared-more t v vs p ih ws (q .2) ∙ sym (drops-first (λ x. some (same-visit t x) (v ∷ vs)) w ws o)))
-    (λ i. drops-first (λ x. some (same-visit t x) (w ∷ ws)) v vs i ∙ ih (w ∷ ws) q ∙ sym (shared-outside t v vs (w ∷ ws) i))
-
 pub shared-round : (t : Terms) (vs ws : List Visit) → Apart t vs → Apart t ws → shared t vs ws ≡ shared t ws vs
-shared-round t [] ws p q = sym (shared-none t ws)
-shared-round t (v ∷ vs) ws p q = shared-more t v vs p (λ xs r. shared-round t vs xs (p .2) r) ws q
-
--- Visits that pass a test stand apart if all do.
-pub apart-kept : (t : Terms) (p : Visit → Bool) (vs : List Visit) → Apart t vs → Apart t (kept-by p vs)
-apart-kept t p [] a = tt
-apart-kept t p (v ∷ vs) a =
-    let ih = apart-kept t p vs (a .2) in
-    split (p v) (λ o. simp o (a .0, all-kept-by p (Follows t v) vs (a .1), ih)) (λ o. simp o ih)
+shared-round t vs ws p q =
+    same-in t (shared t vs ws) (shared t ws vs)
+    (rising-kept (visit-before t) (λ v. is-in t v ws) vs (apart-rising t vs p)) (rising-kept (visit-before t) (λ w. is-in t w vs) ws (apart-rising t ws q))
+    (λ z. some-kept t (λ v. is-in t v ws) z vs ∙ and-comm (is-in t z ws) (is-in t z vs) ∙ sym (some-kept t (λ w. is-in t w vs) z ws))
 
 -- The ledger of the old visits, with what has gone taken and what is new added, is the ledger of the new ones.
-not-not : (b : Bool) → b ≡ not (not b)
-not-not true = refl
-not-not false = refl
-
 totals-parts : (t : Terms) (vs ws : List Visit) → totals t vs ≡ add-visits t (difference t vs ws) (add-visits t (shared t vs ws) [])
-totals-parts t vs ws = add-parts t (λ v. not (some (same-visit t v) ws)) (λ v. some (same-visit t v) ws) (λ v. not-not (some (same-visit t v) ws)) vs []
+totals-parts t vs ws = add-parts t (λ v. not (some (same-visit t v) ws)) (λ v. some (same-visit t v) ws) (λ v. sym (Bool·not-not (some (same-visit t v) ws))) vs []
 
 pub booked-right : (t : Terms) (old new : List Visit) → Apart t old → Apart t new
     → booked t (difference t old new) (difference t new old) (totals t old) ≡ totals t new

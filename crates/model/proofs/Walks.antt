@@ -1,10 +1,10 @@
 -- Loops that walk a list from the front, at an index: one step, the stop and the end.
-use mathlib.Core.Path.{_≡_, refl, sym, ap, _∙_}
-use mathlib.Core.Bool.{Bool, true, false, cond, not, _||_}
+use mathlib.Core.Path.{_≡_, refl, sym}
+use mathlib.Core.Bool.{Bool, true, false}
 use mathlib.Core.List.{List, [], _∷_, _++_, append-assoc}
 use Prim.Native.Nat.{ℕ, _+_, _<_, _≤_}
 use lib.ListN.{length, getD, take, drop}
-use Rattle.std.proofs.shelf.Lists.{drop-more, take-more, drop-all, take-all, append-nil}
+use Rattle.std.proofs.shelf.Lists.{drop-more, take-more, drop-all}
 use Rattle.model.specs.Sessions.{at-place, some}
 
 -- Looking for an element that passes a test.
