@@ -2,9 +2,9 @@
 use mathlib.Core.Path.{_≡_, refl, sym, ap, _∙_, subst}
 use mathlib.Core.Bool.{Bool, true, false, not, _||_}
 use mathlib.Core.List.{List, [], _∷_}
-use Prim.Native.Nat.{ℕ, zero, suc, _-_, _<_, _≤_, max}
+use Prim.Native.Nat.{ℕ, zero, suc, _+_, _-_, _<_, _≤_, max}
 use native.Mathlib.Omega.{arith}
-use lib.Dec.{eqb}
+use lib.Dec.{eqb, leb}
 use lib.ListN.{length}
 use Rattle.std.specs.shelf.Lists.{All, kept-by}
 use Rattle.std.proofs.shelf.Elements.{all-weaker, kept-by-passes}
@@ -23,14 +23,22 @@ use Rattle.model.specs.Kept.{Holds, Little-kept, May-change, Needs-all, Nothin
 use Rattle.model.specs.Reference.{Reference, after, empty}
 use Rattle.model.specs.Sessions.{contains, prepend, some, visits}
 use Rattle.model.specs.Store.{Store, kept-only, live-only, merge-in, store-outcome, store-step}
-use Rattle.model.proofs.Common.{absent-kept, all-both, all-in, all-some, fewer-differs, kept-shorter, same-visits, split}
+use Rattle.model.proofs.Common.{absent-kept, all-both, all-in, all-some, fewer-differs, kept-alike, kept-shorter, same-visits, split}
 use Rattle.model.proofs.Order.{Apart, Follows, Sorted-readings, absent-behind, apart-kept, apart-order, reference-sorted, visits-apart}
 use Rattle.model.proofs.Mirror.{all-kept, image}
 
+-- What is live and what is kept, by their times.
+live-is : (t : Terms) (m : ℕ) (v : Visit) → live t m v ≡ leb m (v .to + gap-of t (v .card) + t .lateness)
+unfolding live expired
+live-is t m v = grind (arith, tells)
+
+kept-is : (t : Terms) (m : ℕ) (e : Reading) → kept t m e ≡ leb m (e .time + t .lateness)
+unfolding kept too-late
+kept-is t m e = grind (arith, tells)
+
 -- A live visit for each recent reading at most: a visit is as live as its last reading is recent.
 single-recent : (t : Terms) (m : ℕ) (e : Reading) → live t m (single e) ≡ recent t m e
-unfolding live expired
-single-recent t m e = refl
+single-recent t m e = live-is t m (single e)
 
 grown-live : (t : Terms) (m : ℕ) (e : Reading) (v : Visit) → live t m (grown e v) ≡ live t m v
 unfolding live expired
@@ -60,7 +68,14 @@ few-live t m [] = omega arith
 few-live t m (e ∷ es) = live-prepend t m e (visits t es) es (few-live t m es)
 
 pub image-holds : (t : Terms) (k : Reference) → Holds t (image t k) k
-image-holds t k = record { watermark = refl; live = refl; seen = refl; few = few-live t (k .watermark) (k .readings) }
+image-holds t k =
+    let m = k .watermark in
+    record {
+      watermark = refl;
+      live = kept-alike (live t m) (λ v. leb m (v .to + gap-of t (v .card) + t .lateness)) (live-is t m) (visits t (k .readings));
+      seen = kept-alike (kept t m) (λ e. leb m (e .time + t .lateness)) (kept-is t m) (k .readings);
+      few = few-live t m (k .readings);
+    }
 
 pub little-kept : Little-kept
 little-kept t cs = subst (λ (s : Store). Holds t s (after t empty cs)) (sym (all-kept t cs)) (image-holds t (after t empty cs))

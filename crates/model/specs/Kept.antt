@@ -1,9 +1,9 @@
 -- What the store keeps: no more than it needs, and nothing in vain.
 use mathlib.Core.Path.{_≡_}
-use mathlib.Core.Bool.{Bool, false, not}
+use mathlib.Core.Bool.{Bool, false}
 use mathlib.Core.List.{List}
 use Prim.Native.Nat.{ℕ, _+_, _≤_, max}
-use lib.Dec.{ltb}
+use lib.Dec.{leb}
 use lib.ListN.{length}
 use Rattle.std.specs.shelf.Lists.{All, kept-by}
 use Rattle.visit.specs.declared.Reading.{Reading}
@@ -17,17 +17,18 @@ use Rattle.command.specs.declared.Refusal.the-variants.{Duplicate}
 use Rattle.command.specs.Outcomes.{refused}
 use Rattle.model.specs.Reference.{Reference, after, empty}
 use Rattle.model.specs.Sessions.{contains, some, visits}
-use Rattle.model.specs.Store.{Store, empty-store, kept-only, live-only, store-after, store-outcome, store-step}
+use Rattle.model.specs.Store.{Store, empty-store, store-after, store-outcome, store-step}
 
 -- A reading is recent while it is at most gap and lateness behind the watermark m.
 abbrev pub recent : Terms → ℕ → Reading → Bool
-recent t m e = not (ltb (e .time + gap-of t (e .card) + t .lateness) m)
+recent t m e = leb m (e .time + gap-of t (e .card) + t .lateness)
 
--- The store that stands for a reference holds its live visits, at most one for each recent reading, and its kept readings.
+-- The store that stands for a reference holds those of its visits whose last reading the watermark is at most gap and lateness past, at most one
+-- for each recent reading; and those of its readings that are not too late.
 pub record Holds (t : Terms) (s : Store) (k : Reference) : Type 0 where
   pub watermark : s .watermark ≡ k .watermark
-  pub live : s .live ≡ live-only t (k .watermark) (visits t (k .readings))
-  pub seen : s .seen ≡ kept-only t (k .watermark) (k .readings)
+  pub live : s .live ≡ kept-by (λ v. leb (k .watermark) (v .to + gap-of t (v .card) + t .lateness)) (visits t (k .readings))
+  pub seen : s .seen ≡ kept-by (λ e. leb (k .watermark) (e .time + t .lateness)) (k .readings)
   pub few : length (s .live) ≤ length (kept-by (recent t (k .watermark)) (k .readings))
 
 abbrev pub Little-kept : Type 0

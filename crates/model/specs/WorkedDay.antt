@@ -67,13 +67,40 @@ table =
     ∷ row (Watermark 120) (changed [] []) (other ∷ [])
     ∷ []
 
-abbrev pub worked-commands : List Command
-worked-commands = map (λ r. r .command) table
-
 abbrev pub worked-ledger : List Line
 worked-ledger = record { card = 1; day = 0; visits = 1; sum = 15 } ∷ record { card = 2; day = 1; visits = 1; sum = 14 } ∷ []
 
-pub record WorkedDay : Type 0 where
-  pub by-row : rows worked-terms empty-store worked-commands ≡ table
-  pub all-outcomes : store-outcomes worked-terms empty-store worked-commands ≡ map (λ r. r .outcome) table
-  pub at-the-end : store-after worked-terms empty-store worked-commands .ledger ≡ worked-ledger
+-- A day on the boundaries: exactly the gap apart and one more; closed and expired at exactly their times and one later; exactly the lateness
+-- behind and one more; a visit over the end of a day; lines that lose their last visit.
+abbrev pub boundary-table : List Row
+boundary-table =
+    row (reading 1 95 0 1) (changed [] []) (visit 1 95 95 1 1 ∷ [])
+    ∷ row (reading 1 105 0 2) (changed [] []) (visit 1 95 105 2 3 ∷ [])
+    ∷ row (reading 1 116 0 4) (changed [] []) (visit 1 95 105 2 3 ∷ visit 1 116 116 1 4 ∷ [])
+    ∷ row (Watermark 115) (changed [] []) (visit 1 95 105 2 3 ∷ visit 1 116 116 1 4 ∷ [])
+    ∷ row (Watermark 116) (changed [] (visit 1 95 105 2 3 ∷ [])) (visit 1 95 105 2 3 ∷ visit 1 116 116 1 4 ∷ [])
+    ∷ row (reading 1 86 0 8) (changed (visit 1 95 105 2 3 ∷ []) (visit 1 86 105 3 11 ∷ [])) (visit 1 86 105 3 11 ∷ visit 1 116 116 1 4 ∷ [])
+    ∷ row (reading 1 85 0 1) (refused (TooLate 85)) (visit 1 86 105 3 11 ∷ visit 1 116 116 1 4 ∷ [])
+    ∷ row (reading 1 106 0 16) (changed (visit 1 86 105 3 11 ∷ []) []) (visit 1 86 116 5 31 ∷ [])
+    ∷ row (Watermark 127) (changed [] (visit 1 86 116 5 31 ∷ [])) (visit 1 86 116 5 31 ∷ [])
+    ∷ row (Watermark 156) (changed [] []) (visit 1 86 116 5 31 ∷ [])
+    ∷ row (Watermark 157) (changed [] []) []
+    ∷ row (reading 2 130 0 5) (changed [] (visit 2 130 130 1 5 ∷ [])) (visit 2 130 130 1 5 ∷ [])
+    ∷ row (reading 2 140 0 6) (changed (visit 2 130 130 1 5 ∷ []) (visit 2 130 140 2 11 ∷ [])) (visit 2 130 140 2 11 ∷ [])
+    ∷ row (reading 2 147 0 7) (changed (visit 2 130 140 2 11 ∷ []) []) (visit 2 130 147 3 18 ∷ [])
+    ∷ []
+
+abbrev pub boundary-ledger : List Line
+boundary-ledger = record { card = 1; day = 0; visits = 1; sum = 31 } ∷ []
+
+-- The commands of a table give its outcomes and its live visits, row by row, and this ledger at the end.
+pub record Comes-out (t : Terms) (table : List Row) (ledger : List Line) : Type 0 where
+  pub by-row : rows t empty-store (map (λ r. r .command) table) ≡ table
+  pub all-outcomes : store-outcomes t empty-store (map (λ r. r .command) table) ≡ map (λ r. r .outcome) table
+  pub at-the-end : store-after t empty-store (map (λ r. r .command) table) .ledger ≡ ledger
+
+abbrev pub WorkedDay : Type 0
+WorkedDay = Comes-out worked-terms table worked-ledger
+
+abbrev pub BoundaryDay : Type 0
+BoundaryDay = Comes-out worked-terms boundary-table boundary-ledger

@@ -3,11 +3,16 @@ ghost use Rattle.model.specs.AddsUp.{Changes-add-up};
 ghost use Rattle.model.specs.Cards.{Cards-apart};
 ghost use Rattle.model.specs.Order.{Any-order};
 ghost use Rattle.model.specs.Right.{Visits-right};
-ghost use Rattle.model.specs.WorkedDay.{WorkedDay};
+ghost use Rattle.model.specs.WorkedDay.{BoundaryDay, WorkedDay};
 
 // A worked day comes out as its table says.
 pub fn worked_day()
     ensures { λ _. ⌜ WorkedDay ⌝ }
+{}
+
+// So does a day that goes along every boundary.
+pub fn boundary_day()
+    ensures { λ _. ⌜ BoundaryDay ⌝ }
 {}
 
 // Cards have nothing to do with each other.

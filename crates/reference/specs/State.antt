@@ -1,5 +1,6 @@
 -- The model that an owned reference stands for.
 use mathlib.Core.Path.{_≡_}
+use Prim.Native.Nat.{ℕ, _-_, _^_}
 use Rattle.std.specs.Of.Vec.{vec-items}
 use Rattle.std.specs.declared.result.Result.{Result}
 use Rattle.std.specs.declared.result.Result.the-variants.{Ok, Err}
@@ -14,6 +15,10 @@ model-of r = record { readings = vec-items (r .readings); watermark = r .waterma
 
 abbrev pub terms-of : Reference → Terms
 terms-of r = r .terms
+
+-- As many readings as the reference takes in: sums of that many small amounts fit in 64 bits.
+abbrev pub most-readings : ℕ
+most-readings = 2 ^ 32 - 1
 
 -- A next state or a refusal, as the model has it.
 abbrev pub planned : Result Reference Refusal → Result Model Refusal

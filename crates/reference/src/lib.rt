@@ -9,8 +9,9 @@ ghost use Rattle.command.specs.Outcomes.{outcome-of};
 ghost use Rattle.command.specs.declared.Command.the-variants.{Reading as A-reading, Watermark};
 ghost use Rattle.model.specs.Sessions.{changes as Changed};
 ghost use Rattle.model.specs.Reference.{closed-of, empty, ledger-of, outcome-by, plan as Plan, state-by};
-ghost use Rattle.reference.specs.State.{Under, model-of, plan-of, planned};
-ghost use Rattle.std.specs.Of.Vec.{vec-items};
+ghost use Rattle.reference.specs.State.{Under, model-of, most-readings, plan-of, planned};
+ghost use Rattle.std.specs.Of.Vec.{vec-items, vec-len};
+ghost use lib.Dec.{ltb};
 ghost use Rattle.std.specs.Vec.{made, refused};
 ghost use Prim.Native.Nat.{_^_, _<_};
 ghost use mathlib.Core.Path.{_≡_};
@@ -102,6 +103,13 @@ impl Reference {
         ledger::totals(heap, self.terms, closed.as_slice())
     }
 
+    // Whether one reading more may be taken in.
+    fn has_room(&self) -> bool
+        ensures { λ r. ⌜ r ≡ ltb (vec-len (now (self .entry) .readings)) most-readings ⌝ }
+    {
+        self.readings.len() < MOST_READINGS
+    }
+
     // The next state, or a refusal.
     fn plan(&self, heap: Global, command: Command) -> Result<Result<Reference, Refusal>, AllocError>
         ensures terms { λ r. ⌜ made r (λ p. Under (now (self .entry) .terms) p) ⌝ }
@@ -134,7 +142,7 @@ impl Reference {
         if contains(self.readings.as_slice(), e, self.terms) {
             return Ok(Err(Refusal::Duplicate(e.time)));
         }
-        if self.readings.len() >= MOST_READINGS {
+        if !self.has_room() {
             return Err(AllocError);
         }
         let readings = inserted(heap, self.readings.as_slice(), e, self.terms)?;

@@ -38,14 +38,18 @@ fn apply_one<S: Sessions>(
 }
 
 // Does the commands behind a file's terms, one after the other.
-pub fn run<S: Sessions>(heap: Global, sessions: &mut S, bytes: &[u8]) -> Result<Report, AllocError>
-    ensures text { λ r. ⌜ made r (λ p. string-bytes (p .text) ≡ prints (now (sessions .entry)) (commands (now (bytes .entry)))) ⌝ }
+pub fn run<S: Sessions + Drop>(
+    heap: Global,
+    mut sessions: S,
+    bytes: &[u8],
+) -> Result<Report, AllocError>
+    ensures text { λ r. ⌜ made r (λ p. string-bytes (p .text) ≡ prints sessions (commands (now (bytes .entry)))) ⌝ }
     ensures rest { λ r. ⌜ made r (λ p. p .unread ≡ Unread (now (bytes .entry))) ⌝ }
 {
     let mut text = String::new(heap);
     let mut at = 0;
     while let Some((command, next)) = command_at(bytes, at) {
-        apply_one(heap, sessions, &mut text, command)?;
+        apply_one(heap, &mut sessions, &mut text, command)?;
         at = next;
     }
     let lines = sessions.ledger(heap)?;
@@ -63,7 +67,6 @@ pub fn recompute(heap: Global, file: &[u8]) -> Result<Option<Report>, AllocError
     let Some(terms) = read_terms(file) else {
         return Ok(None);
     };
-    let mut sessions = Reference::new(heap, terms);
-    let report = run(heap, &mut sessions, &file[TERMS_SIZE..])?;
+    let report = run(heap, Reference::new(heap, terms), &file[TERMS_SIZE..])?;
     Ok(Some(report))
 }

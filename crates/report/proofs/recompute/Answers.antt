@@ -10,13 +10,13 @@ use Rattle.report.proofs.recompute.Needs as need
 pub returns : need.returns
 returns c =
     let t = c .in-Some .terms in
-    let new = c .new-sessions .ensures in
+    let new = c .new .ensures in
     let file = c .args .file .now in
     let cs = commands (take (length file - 24) (drop 24 file)) in (
       t,
       sym (c .in-Some .ensures tt .value),
       c .in-Continue-report .ensures tt .text
-          ∙ ap (λ u. reference-prints u (model-of (c .new-sessions .result)) cs) (new .terms)
+          ∙ ap (λ u. reference-prints u (model-of (c .new .result)) cs) (new .terms)
           ∙ ap (λ k. reference-prints t k cs) (new .state)
           ∙ ap (λ bs. recompute-text t (commands bs)) (take-rest file 24),
       c .in-Continue-report .ensures tt .rest ∙ ap unread (take-rest file 24),
