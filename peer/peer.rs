@@ -170,7 +170,7 @@ impl Peer {
             Command::Reading(reading) => self.reading(reading, changes)?,
             Command::Watermark(watermark) => self.advance(*watermark, changes)?,
         }
-        self.book(changes);
+        self.post(changes);
         Ok(())
     }
 
@@ -257,7 +257,7 @@ impl Peer {
     }
 
     /// Brings the ledger up to date with the changes of a command.
-    fn book(&mut self, changes: &Changes) {
+    fn post(&mut self, changes: &Changes) {
         for visit in &changes.retracted {
             let key = self.line_key(visit);
             let line = self.ledger.get_mut(&key).expect("a closed visit stands in the ledger");

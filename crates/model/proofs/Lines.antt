@@ -15,7 +15,7 @@ use Rattle.visit.specs.declared.Terms.{Terms}
 use Rattle.visit.specs.declared.Visit.{Visit}
 use Rattle.visit.specs.Lines.{line-before, line-minus, line-of, line-plus, same-key}
 use Rattle.model.specs.Ledger.{add-line, add-visits, take-line, take-visits, totals}
-use Rattle.model.specs.Store.{booked}
+use Rattle.model.specs.Store.{posted}
 use Rattle.model.specs.Unseen.{Lined, Totals-right, entry, lines-for, visits-for}
 use Rattle.model.proofs.Common.{kept-none, split}
 use Rattle.model.proofs.Totals.{key-after, key-through, line-parts, one-visit, plus-before}
@@ -92,8 +92,8 @@ pub lined-take-visits : (t : Terms) (vs : List Visit) (ls : List Line) → Lined
 lined-take-visits t [] ls p = p
 lined-take-visits t (v ∷ vs) ls p = lined-take-visits t vs (take-line t (line-of t v) ls) (lined-take t (line-of t v) ls (single-line t v) p)
 
-pub lined-booked : (t : Terms) (gone new : List Visit) (ls : List Line) → Lined t ls → Lined t (booked t gone new ls)
-lined-booked t gone new ls p = lined-visits t new (take-visits t gone ls) (lined-take-visits t gone ls p)
+pub lined-posted : (t : Terms) (gone new : List Visit) (ls : List Line) → Lined t ls → Lined t (posted t gone new ls)
+lined-posted t gone new ls p = lined-visits t new (take-visits t gone ls) (lined-take-visits t gone ls p)
 
 -- A line that is added adds its number of visits, or its sum, to what the lines of its key have.
 abbrev has-key : ℕ → ℕ → Line → Bool

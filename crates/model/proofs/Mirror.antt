@@ -23,13 +23,13 @@ use Rattle.command.specs.Bounds.{command-fault, terms-fault}
 use Rattle.command.specs.Outcomes.{Outcome}
 use Rattle.model.specs.Reference.{Reference, after, bounded-after, bounded-outcomes, bounded-plan, closed-of, empty, ledger-of, or-fault, outcome, outcome-by, outcomes, plan, state-by, step}
 use Rattle.model.specs.Sessions.{changes, closed-visits, contains, difference, insert-reading, some, visits}
-use Rattle.model.specs.Store.{Draft, Store, booked, closed-after, closed-before, draft, empty-store, finish, kept-only, live-only, merge-in, store-after, store-by, store-outcome, store-outcome-by, store-outcomes, store-step}
+use Rattle.model.specs.Store.{Draft, Store, posted, closed-after, closed-before, draft, empty-store, finish, kept-only, live-only, merge-in, store-after, store-by, store-outcome, store-outcome-by, store-outcomes, store-step}
 use Rattle.model.specs.Unseen.{Bounded-unseen, Forgetting-unseen, bounded-draft, bounded-store-after, bounded-store-outcomes}
 use Rattle.model.proofs.Common.{split}
 use Rattle.model.proofs.Merge.{insert-merges}
 use Rattle.model.proofs.Order.{Sorted-readings, apart-kept, insert-sorted, step-sorted, visits-apart}
 use Rattle.model.proofs.Expiry.{contains-kept, dead-closed, dead-merge, difference-live, insert-kept, kept-only-twice, live-merge, live-twice, timely-live, timely-reaches}
-use Rattle.model.proofs.Totals.{booked-right}
+use Rattle.model.proofs.Totals.{posted-right}
 
 -- The store that stands for a reference, with a ledger.
 abbrev pub mirror : Terms → Reference → List Line → Store
@@ -127,9 +127,9 @@ changes-mirror t k next ls g = let a = gone-mirror t k next g in let b = new-mir
 pub ledger-right : (t : Terms) (k next : Reference) → Sorted-readings t (k .readings) → Goes-on t k next
     → finish t (mirror t k (ledger-of t k)) (drafted t (k .watermark) next) .ledger ≡ ledger-of t next
 ledger-right t k next s g =
-    ap (λ (vs : List Visit). booked t vs (difference t (closed-after t (drafted t (k .watermark) next)) (closed-before t (mirror t k (ledger-of t k)))) (ledger-of t k)) (sym (gone-mirror t k next g))
-    ∙ ap (λ (vs : List Visit). booked t (difference t (closed-of t k) (closed-of t next)) vs (ledger-of t k)) (sym (new-mirror t k next g))
-    ∙ booked-right t (closed-of t k) (closed-of t next)
+    ap (λ (vs : List Visit). posted t vs (difference t (closed-after t (drafted t (k .watermark) next)) (closed-before t (mirror t k (ledger-of t k)))) (ledger-of t k)) (sym (gone-mirror t k next g))
+    ∙ ap (λ (vs : List Visit). posted t (difference t (closed-of t k) (closed-of t next)) vs (ledger-of t k)) (sym (new-mirror t k next g))
+    ∙ posted-right t (closed-of t k) (closed-of t next)
     (apart-kept t (closed t (k .watermark)) (visits t (k .readings)) (visits-apart t (k .readings) s))
     (apart-kept t (closed t (next .watermark)) (visits t (next .readings)) (visits-apart t (next .readings) (g .sorted)))
 

@@ -14,7 +14,7 @@ use Rattle.visit.specs.Lines.{line-before, line-minus, line-of, line-plus, same
 use Rattle.visit.specs.Visits.{same-visit, visit-before}
 use Rattle.model.specs.Ledger.{add-line, add-visits, take-line, take-visits, totals}
 use Rattle.model.specs.Sessions.{difference, some}
-use Rattle.model.specs.Store.{booked}
+use Rattle.model.specs.Store.{posted}
 use Rattle.model.proofs.Common.{some-kept, split}
 use Rattle.model.proofs.Order.{Apart}
 use Rattle.model.proofs.Same.{rising-kept}
@@ -205,10 +205,10 @@ shared-round t vs ws p q =
 totals-parts : (t : Terms) (vs ws : List Visit) → totals t vs ≡ add-visits t (difference t vs ws) (add-visits t (shared t vs ws) [])
 totals-parts t vs ws = add-parts t (λ v. not (some (same-visit t v) ws)) (λ v. some (same-visit t v) ws) (λ v. sym (Bool·not-not (some (same-visit t v) ws))) vs []
 
-pub booked-right : (t : Terms) (old new : List Visit) → Apart t old → Apart t new
-    → booked t (difference t old new) (difference t new old) (totals t old) ≡ totals t new
-booked-right t old new p q =
-    ap (λ (l : List Line). booked t (difference t old new) (difference t new old) l) (totals-parts t old new)
+pub posted-right : (t : Terms) (old new : List Visit) → Apart t old → Apart t new
+    → posted t (difference t old new) (difference t new old) (totals t old) ≡ totals t new
+posted-right t old new p q =
+    ap (λ (l : List Line). posted t (difference t old new) (difference t new old) l) (totals-parts t old new)
     ∙ ap (λ (l : List Line). add-visits t (difference t new old) l) (take-visits-undoes t (difference t old new) (add-visits t (shared t old new) []) (filled-visits t (shared t old new) [] tt))
     ∙ ap (λ (l : List Visit). add-visits t (difference t new old) (add-visits t l [])) (shared-round t old new p q)
     ∙ sym (totals-parts t new old)

@@ -62,8 +62,8 @@ abbrev pub closed-after : Terms → Draft → List Visit
 closed-after t d = closed-visits t (d .watermark) (d .live)
 
 -- The ledger after visits were retracted and others added.
-abbrev pub booked : Terms → List Visit → List Visit → List Line → List Line
-booked t gone new ls = add-visits t new (take-visits t gone ls)
+abbrev pub posted : Terms → List Visit → List Visit → List Line → List Line
+posted t gone new ls = add-visits t new (take-visits t gone ls)
 
 -- One end for every kind of command: the ledger by what has changed, then expiry.
 abbrev pub finish : Terms → Store → Draft → Store
@@ -72,7 +72,7 @@ finish t s d =
       live = live-only t (d .watermark) (d .live);
       seen = kept-only t (d .watermark) (d .seen);
       watermark = d .watermark;
-      ledger = booked t (difference t (closed-before t s) (closed-after t d)) (difference t (closed-after t d) (closed-before t s)) (s .ledger);
+      ledger = posted t (difference t (closed-before t s) (closed-after t d)) (difference t (closed-after t d) (closed-before t s)) (s .ledger);
     }
 
 abbrev pub store-outcome-by : Terms → Store → Result Draft Refusal → Outcome
