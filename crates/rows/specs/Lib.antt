@@ -1,0 +1,5 @@
+pub mod Rows
+pub mod Fields
+pub mod Visits
+pub mod Readings
+pub mod Lines

@@ -1,0 +1,31 @@
+// A line of the ledger as a row: card, day, visits, sum.
+ghost use Rattle.rows.specs.Lines.{line-cells, line-laws, line-made, line-width};
+use crate::row::Row;
+use visit::Line;
+
+pub impl Row for Line as LineRow {
+    ghost width = { line-width };
+
+    ghost made = { line-made };
+
+    ghost cells = { line-cells };
+
+    ghost laws = { line-laws };
+
+    fn width() -> usize {
+        4
+    }
+
+    fn read(source: &[u64]) -> Line {
+        Line {
+            card: source[0],
+            day: source[1],
+            visits: source[2],
+            sum: source[3],
+        }
+    }
+
+    fn write(self, target: &mut [u64]) {
+        target.copy_from_slice(&[self.card, self.day, self.visits, self.sum]);
+    }
+}
