@@ -1,5 +1,6 @@
 pub mod Rows
 pub mod Fields
+pub mod Tests
 pub mod Visits
 pub mod Readings
 pub mod Lines

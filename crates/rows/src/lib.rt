@@ -1,5 +1,8 @@
 // Tables of rows of a fixed width in a borrowed slice of numbers.
+pub mod access;
+pub mod choose;
 pub mod lines;
 pub mod readings;
 pub mod row;
+pub mod test;
 pub mod visits;

@@ -1,0 +1,4 @@
+pub mod Products
+pub mod Splits
+pub mod Written
+pub mod Firsts

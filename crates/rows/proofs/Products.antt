@@ -1,0 +1,12 @@
+-- Where rows begin and end.
+use mathlib.Core.Path.{_≡_}
+use Prim.Native.Nat.{ℕ, suc, _+_, _*_, _<_, _≤_}
+use native.Mathlib.Nat.{suc-mul, mul-le-mul-right, zero-mul}
+use native.Mathlib.Omega.{arith}
+
+-- A row among n ends no later than the n rows.
+pub row-ends : (w i n : ℕ) → i < n → i * w + w ≤ n * w
+row-ends w i n h = rw suc-mul at (mul-le-mul-right {m = suc i} {n = n} w h)
+
+pub rows-rise : (w m n : ℕ) → m ≤ n → m * w ≤ n * w
+rows-rise w m n h = mul-le-mul-right w h
