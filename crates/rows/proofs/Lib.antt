@@ -2,3 +2,5 @@ pub mod Products
 pub mod Splits
 pub mod Written
 pub mod Firsts
+pub mod Moved
+pub mod Filtering

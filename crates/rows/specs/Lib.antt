@@ -1,4 +1,5 @@
 pub mod Rows
+pub mod Cells
 pub mod Fields
 pub mod Tests
 pub mod Visits
