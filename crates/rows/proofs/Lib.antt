@@ -4,3 +4,5 @@ pub mod Written
 pub mod Firsts
 pub mod Moved
 pub mod Filtering
+pub mod Closing
+pub mod Shifted

@@ -1,6 +1,7 @@
 // Tables of rows of a fixed width in a borrowed slice of numbers.
 pub mod access;
 pub mod cells;
+pub mod change;
 pub mod choose;
 pub mod lines;
 pub mod readings;
