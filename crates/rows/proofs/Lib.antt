@@ -6,3 +6,4 @@ pub mod Moved
 pub mod Filtering
 pub mod Closing
 pub mod Shifted
+pub mod Overs

@@ -5,6 +5,7 @@ use Prim.Native.Nat.{ℕ, zero, suc, _+_, _-_, _*_, _<_, _≤_}
 use native.Mathlib.Nat.{add-comm, suc-add, suc-mul, zero-add, zero-mul}
 use native.Mathlib.Omega.{arith}
 use lib.ListN.{drop, getD, length, take}
+use lib.Seq.{take-add}
 use Rattle.std.proofs.shelf.Lists.{append-assoc, append-nil, drop-append-le, drop-at, drop-drop, length-append, length-drop, length-take-le, take-append-drop, take-append-le, take-at}
 use Rattle.rows.specs.Rows.{Laws, cells-of, rows-in}
 
@@ -70,3 +71,11 @@ module _ {R : Type 0} {w : ℕ} {made : List ℕ → R} {cells : R → List ℕ}
   rows-of-cells [] q = refl
   rows-of-cells (r ∷ rs) q =
       rw (append-assoc (cells r) (cells-of cells rs) q) (rows-cons (length rs) r (cells-of cells rs ++ q) ∙ ap (λ l. r ∷ l) (rows-of-cells rs q))
+
+  pub cells-of-rows : (n : ℕ) (xs : List ℕ) → n * w ≤ length xs → cells-of cells (rows-in w made n xs) ≡ take (n * w) xs
+  cells-of-rows zero xs h = rw (zero-mul w)
+  cells-of-rows (suc n) xs h =
+      let long : n * w + w ≤ length xs = rw suc-mul at h in
+      let first : w ≤ length xs = omega arith in
+      let behind : n * w ≤ length (drop w xs) = simp length-drop (omega arith) in
+      rw (suc-mul n w, add-comm (n * w) w, take-add w (n * w) xs, laws .back xs first, cells-of-rows n (drop w xs) behind)

@@ -3,6 +3,7 @@ pub mod access;
 pub mod cells;
 pub mod change;
 pub mod choose;
+pub mod limits;
 pub mod lines;
 pub mod readings;
 pub mod row;

@@ -1,5 +1,7 @@
 // A line of the ledger as a row: card, day, visits, sum.
-ghost use Rattle.rows.specs.Lines.{line-cells, line-laws, line-made, line-width};
+ghost use Rattle.rows.specs.Lines.{line-cells, line-laws, line-limited, line-limits, line-made, line-width};
+use crate::limits::COUNT_LIMIT;
+use crate::limits::SUM_LIMIT;
 use crate::row::Row;
 use visit::Line;
 
@@ -10,7 +12,11 @@ pub impl Row for Line as LineRow {
 
     ghost cells = { line-cells };
 
+    ghost limits = { line-limits };
+
     ghost laws = { line-laws };
+
+    ghost limited = { line-limited };
 
     fn width() -> usize {
         4
@@ -27,5 +33,15 @@ pub impl Row for Line as LineRow {
 
     fn write(self, target: &mut [u64]) {
         target.copy_from_slice(&[self.card, self.day, self.visits, self.sum]);
+    }
+
+    fn over(self) -> Option<usize> {
+        if self.visits >= COUNT_LIMIT {
+            return Some(2);
+        }
+        if self.sum >= SUM_LIMIT {
+            return Some(3);
+        }
+        None
     }
 }

@@ -1,5 +1,6 @@
 // A reading as a row: card, time, serial, amount.
-ghost use Rattle.rows.specs.Readings.{reading-cells, reading-laws, reading-made, reading-width};
+ghost use Rattle.rows.specs.Readings.{reading-cells, reading-laws, reading-limited, reading-limits, reading-made, reading-width};
+use crate::limits::TIME_LIMIT;
 use crate::row::Row;
 use visit::Reading;
 
@@ -10,7 +11,11 @@ pub impl Row for Reading as ReadingRow {
 
     ghost cells = { reading-cells };
 
+    ghost limits = { reading-limits };
+
     ghost laws = { reading-laws };
+
+    ghost limited = { reading-limited };
 
     fn width() -> usize {
         4
@@ -27,5 +32,12 @@ pub impl Row for Reading as ReadingRow {
 
     fn write(self, target: &mut [u64]) {
         target.copy_from_slice(&[self.card, self.time, self.serial, self.amount]);
+    }
+
+    fn over(self) -> Option<usize> {
+        if self.time >= TIME_LIMIT {
+            return Some(1);
+        }
+        None
     }
 }
