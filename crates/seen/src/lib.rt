@@ -1,0 +1,41 @@
+// The readings that are kept, as rows of a borrowed table of numbers.
+ghost use Prim.Native.Nat.{_*_, _-_, _≤_};
+ghost use Rattle.model.specs.Store.{kept-only};
+ghost use Rattle.rows.specs.Readings.{reading-width};
+ghost use Rattle.seen.specs.Table.{readings-in};
+ghost use Rattle.std.specs.Holes.{between};
+ghost use Rattle.visit.specs.Readings.{kept as Kept};
+ghost use lib.ListN.{drop, length, replicate};
+ghost use mathlib.Core.Path.{_≡_};
+use rows::choose::keep;
+use rows::readings::ReadingRow;
+use rows::test::Keep;
+use visit::Reading;
+use visit::Terms;
+
+// Not too late at the watermark.
+#[derive(Clone, Copy)]
+pub struct InTime {
+    pub terms: Terms,
+    pub watermark: u64,
+}
+
+pub impl Keep<Reading> for InTime as InTimeTest {
+    ghost passes = { λ t e. Kept (t .terms) (t .watermark) e };
+
+    fn keeps(&self, row: Reading) -> bool {
+        row.kept(self.terms, self.watermark)
+    }
+}
+
+// Drops the readings that would be too late; returns how many stay. The cells that they leave are 0.
+pub fn expire(table: &mut [u64], n: usize, terms: Terms, watermark: u64) -> usize
+    requires { ⌜ n * reading-width ≤ length (now table) ⌝ }
+    ensures few { λ r. ⌜ r ≤ n ⌝ }
+    ensures readings { λ r. ⌜ readings-in r (now (table .exit)) ≡ kept-only terms watermark (readings-in n (now (table .entry))) ⌝ }
+    ensures free { λ r. ⌜ between (r * reading-width) (n * reading-width) (now (table .exit)) ≡ replicate (n * reading-width - r * reading-width) 0 ⌝ }
+    ensures rest { λ r. ⌜ drop (n * reading-width) (now (table .exit)) ≡ drop (n * reading-width) (now (table .entry)) ⌝ }
+{
+    let in_time = InTime { terms, watermark };
+    keep::<Reading, InTime>(table, n, &in_time)
+}
