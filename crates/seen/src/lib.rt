@@ -1,12 +1,14 @@
 // The readings that are kept, as rows of a borrowed table of numbers.
 ghost use Prim.Native.Nat.{_*_, _-_, _≤_};
+ghost use Rattle.model.specs.Sessions.{contains as Contains};
 ghost use Rattle.model.specs.Store.{kept-only};
 ghost use Rattle.rows.specs.Readings.{reading-width};
 ghost use Rattle.seen.specs.Table.{readings-in};
 ghost use Rattle.std.specs.Holes.{between};
-ghost use Rattle.visit.specs.Readings.{kept as Kept};
+ghost use Rattle.visit.specs.Readings.{kept as Kept, same-reading};
 ghost use lib.ListN.{drop, length, replicate};
 ghost use mathlib.Core.Path.{_≡_};
+use rows::choose::find;
 use rows::choose::keep;
 use rows::readings::ReadingRow;
 use rows::test::Keep;
@@ -38,4 +40,28 @@ pub fn expire(table: &mut [u64], n: usize, terms: Terms, watermark: u64) -> usiz
 {
     let in_time = InTime { terms, watermark };
     keep::<Reading, InTime>(table, n, &in_time)
+}
+
+// The same as a given reading.
+#[derive(Clone, Copy)]
+pub struct Same {
+    pub terms: Terms,
+    pub reading: Reading,
+}
+
+pub impl Keep<Reading> for Same as SameTest {
+    ghost passes = { λ t e. same-reading (t .terms) (t .reading) e };
+
+    fn keeps(&self, row: Reading) -> bool {
+        self.reading.same(row, self.terms)
+    }
+}
+
+// Whether the reading is among the n of the table.
+pub fn contains(table: &[u64], n: usize, reading: Reading, terms: Terms) -> bool
+    requires { ⌜ n * reading-width ≤ length (now table) ⌝ }
+    ensures { λ r. ⌜ r ≡ Contains terms reading (readings-in n (now (table .entry))) ⌝ }
+{
+    let same = Same { terms, reading };
+    find::<Reading, Same>(table, n, &same) < n
 }
