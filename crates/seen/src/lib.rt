@@ -1,12 +1,13 @@
 // The readings that are kept, as rows of a borrowed table of numbers.
-ghost use Prim.Native.Nat.{_*_, _-_, _≤_};
-ghost use Rattle.model.specs.Sessions.{contains as Contains};
+ghost use Prim.Native.Nat.{_+_, _*_, _-_, _≤_};
+ghost use Rattle.model.specs.Sessions.{contains as Contains, insert-reading};
 ghost use Rattle.model.specs.Store.{kept-only};
 ghost use Rattle.rows.specs.Readings.{reading-width};
 ghost use Rattle.seen.specs.Table.{readings-in};
 ghost use Rattle.std.specs.Holes.{between};
-ghost use Rattle.visit.specs.Readings.{kept as Kept, same-reading};
+ghost use Rattle.visit.specs.Readings.{kept as Kept, reading-before, same-reading};
 ghost use lib.ListN.{drop, length, replicate};
+ghost use mathlib.Core.Bool.{not};
 ghost use mathlib.Core.Path.{_≡_};
 use rows::choose::find;
 use rows::choose::keep;
@@ -64,4 +65,30 @@ pub fn contains(table: &[u64], n: usize, reading: Reading, terms: Terms) -> bool
 {
     let same = Same { terms, reading };
     find::<Reading, Same>(table, n, &same) < n
+}
+
+// Not before a given reading in the order.
+#[derive(Clone, Copy)]
+pub struct NotBefore {
+    pub terms: Terms,
+    pub reading: Reading,
+}
+
+pub impl Keep<Reading> for NotBefore as NotBeforeTest {
+    ghost passes = { λ t e. not (reading-before (t .terms) e (t .reading)) };
+
+    fn keeps(&self, row: Reading) -> bool {
+        !row.before(self.reading, self.terms)
+    }
+}
+
+// Puts the reading at its place among the n of the table.
+pub fn insert(table: &mut [u64], n: usize, reading: Reading, terms: Terms)
+    requires { ⌜ n * reading-width + reading-width ≤ length (now table) ⌝ }
+    ensures readings { λ _. ⌜ readings-in (n + 1) (now (table .exit)) ≡ insert-reading terms reading (readings-in n (now (table .entry))) ⌝ }
+    ensures rest { λ _. ⌜ drop (n * reading-width + reading-width) (now (table .exit)) ≡ drop (n * reading-width + reading-width) (now (table .entry)) ⌝ }
+{
+    let not_before = NotBefore { terms, reading };
+    let at = find::<Reading, NotBefore>(table, n, &not_before);
+    rows::change::insert(table, n, at, reading);
 }
