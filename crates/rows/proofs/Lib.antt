@@ -7,3 +7,4 @@ pub mod Filtering
 pub mod Closing
 pub mod Shifted
 pub mod Overs
+pub mod Copying

@@ -1,7 +1,7 @@
 -- Where rows begin and end.
 use mathlib.Core.Path.{_≡_, ap, _∙_}
 use Prim.Native.Nat.{ℕ, suc, _+_, _-_, _*_, _<_, _≤_}
-use native.Mathlib.Nat.{add-mul, suc-mul, mul-le-mul-right}
+use native.Mathlib.Nat.{add-mul, suc-mul, mul-le-mul-left, mul-le-mul-right, mul-one}
 use native.Mathlib.Omega.{arith}
 
 -- A row among n ends no later than the n rows.
@@ -16,3 +16,7 @@ rows-left w m n h =
     let whole : n ≡ m + (n - m) = omega arith in
     let total : n * w ≡ m * w + (n - m) * w = ap (λ k. k * w) whole ∙ add-mul m (n - m) w in
     omega arith
+
+-- A row has a cell at least.
+pub rows-many : (w n : ℕ) → 0 < w → n ≤ n * w
+rows-many w n h = rw mul-one at (mul-le-mul-left {m = 1} {n = w} n h)

@@ -2,6 +2,7 @@
 use mathlib.Core.List.{List, [], _∷_}
 use mathlib.Core.Path.{_≡_, refl}
 use Prim.Native.Nat.{ℕ}
+use native.Mathlib.Omega.{arith}
 use lib.ListN.{getD, length}
 use Rattle.std.specs.declared.option.Option.{Option}
 use Rattle.std.specs.declared.option.Option.the-variants.{Some, None}
@@ -28,6 +29,7 @@ line-limited = refl
 
 pub line-laws : Laws line-width line-made line-cells
 line-laws = record {
+  some = omega arith;
   long = λ r. refl;
   reads = λ r rest. refl;
   back = λ xs h. fields-taken 0 line-width xs h;

@@ -1,10 +1,11 @@
 // The rows of a table that pass a test.
 ghost use Prim.Native.Nat.{_*_, _-_, _≤_};
-ghost use Rattle.rows.specs.Rows.{rows-in};
+ghost use Rattle.rows.specs.Rows.{cells-of, rows-in};
 ghost use Rattle.rows.specs.Tests.{first-of};
 ghost use Rattle.std.specs.Holes.{between};
 ghost use Rattle.std.specs.shelf.Lists.{kept-by};
 ghost use lib.ListN.{drop, length, replicate};
+ghost use mathlib.Core.List.{_++_};
 ghost use mathlib.Core.Path.{_≡_};
 use crate::access::put;
 use crate::access::row_at;
@@ -44,4 +45,27 @@ pub fn keep<R: Row, K: Keep<R>>(table: &mut [u64], n: usize, test: &K) -> usize
     let w = R::width();
     clear(table, to * w, n * w);
     to
+}
+
+// Rows that pass are written to another slice, from its front on.
+pub fn copy_passing<R: Row, K: Keep<R>>(
+    table: &[u64],
+    n: usize,
+    test: &K,
+    target: &mut [u64],
+) -> usize
+    requires within { ⌜ n * width ≤ length (now table) ⌝ }
+    requires room { ⌜ length (kept-by (passes (now test)) (rows-in width made n (now table))) * width ≤ length (now target) ⌝ }
+    ensures many { λ r. ⌜ r ≡ length (kept-by (passes (now (test .entry))) (rows-in width made n (now (table .entry)))) ⌝ }
+    ensures stored { λ r. ⌜ now (target .exit) ≡ cells-of cells (kept-by (passes (now (test .entry))) (rows-in width made n (now (table .entry)))) ++ drop (r * width) (now (target .entry)) ⌝ }
+{
+    let mut count = 0;
+    for i in 0..n {
+        let row: R = row_at(table, i);
+        if test.keeps(row) {
+            put(target, count, row);
+            count += 1;
+        }
+    }
+    count
 }
