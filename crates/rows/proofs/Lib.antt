@@ -8,3 +8,4 @@ pub mod Closing
 pub mod Shifted
 pub mod Overs
 pub mod Copying
+pub mod Replaced
