@@ -1,0 +1,2 @@
+// The live visits, as the first rows of a borrowed table of numbers.
+pub mod expiry;
