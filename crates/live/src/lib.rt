@@ -1,2 +1,3 @@
 // The live visits, as the first rows of a borrowed table of numbers.
 pub mod expiry;
+pub mod open;
