@@ -1,6 +1,8 @@
 // Rows of numbers at and around every boundary, put through `open` and `apply`; what comes out is printed.
 // `boundaries FILE...` reads its cases from files: data/ has them, and peer/rows.py says how they are written.
 // The expected output is not ours: `peer/rows.sh` has an independent program work it out from the same files.
+#![tactic(auto)]
+
 mod numbers;
 mod runner;
 mod setup;

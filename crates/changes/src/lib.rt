@@ -1,4 +1,6 @@
 // What a command changes among the closed visits, written to a borrowed row of numbers.
+#![tactic(auto)]
+
 pub mod apart;
 pub mod laws;
 pub mod out;

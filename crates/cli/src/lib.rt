@@ -1,4 +1,6 @@
 // What the programs share: options, input, the text out, one line for an error.
+#![tactic(auto)]
+
 pub mod flags;
 pub mod options;
 

@@ -1,4 +1,6 @@
 // Commands, and what is answered to them: changes of the closed visits, or a refusal with its number and place.
+#![tactic(auto)]
+
 ghost use Rattle.command.specs.Bounds.{command_fault, terms_fault};
 ghost use Rattle.command.specs.Numbers.{number as Number, place as Place, reply_number, reply_value};
 ghost use Rattle.command.specs.Outcomes.{outcome_of, reply_of};

@@ -1,4 +1,6 @@
 // A day of commands as text to a command file, and back.
+#![tactic(auto)]
+
 ghost use Rattle.convert.specs.Packing.{pack_error};
 ghost use Rattle.convert.specs.declared.PackError.TheVariants.{NoMemory};
 ghost use Rattle.std.specs.Prelude.{◌≡◌};

@@ -1,6 +1,8 @@
 // Days of commands as text for people. The first line with words is `terms GAP LATENESS DAY`, every further one
 // `reading CARD TIME SERIAL AMOUNT` or `watermark TIME`. `#` begins a comment, and a line without words is passed over.
 // Numbers are decimal digits; card, serial and amount are below 2^32, all others below 2^64.
+#![tactic(auto)]
+
 ghost use Rattle.days.specs.declared.ParseError.TheVariants.{Bad, NoMemory};
 ghost use Rattle.days.specs.Writing.{bad_line_text, reason_text};
 ghost use Rattle.std.specs.Prelude.{◌≡◌, Some};

@@ -1,4 +1,6 @@
 // Command files: decoding and encoding; and the text of answers and of the ledger.
+#![tactic(auto)]
+
 pub mod files;
 #[cfg(test)]
 mod tests;

@@ -1,4 +1,6 @@
 // The live visits, as the first rows of a borrowed table of numbers.
+#![tactic(auto)]
+
 pub mod expiry;
 pub mod merging;
 pub mod open;

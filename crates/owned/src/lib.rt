@@ -1,4 +1,6 @@
 // A store that owns its row of numbers, and answers with the visits themselves.
+#![tactic(auto)]
+
 mod answers;
 mod state;
 

@@ -1,4 +1,6 @@
 // A day as text to a command file, and back.
+#![tactic(auto)]
+
 use anyhow::anyhow;
 use cli::Tool;
 use cli::options::Options;

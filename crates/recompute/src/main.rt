@@ -1,4 +1,6 @@
 // Does the commands of a file by the reference, which keeps every reading and works everything out anew.
+#![tactic(auto)]
+
 use anyhow::anyhow;
 use cli::Tool;
 use cli::options::Options;

@@ -1,4 +1,6 @@
 // The reference: keeps every reading in a Vec and works everything out anew at each command.
+#![tactic(auto)]
+
 mod ledger;
 mod order;
 mod readings;

@@ -1,4 +1,6 @@
 // A whole command file to the whole text.
+#![tactic(auto)]
+
 pub mod sessions;
 pub mod whole;
 

@@ -1,4 +1,6 @@
 // Tables of rows of a fixed width in a borrowed slice of numbers.
+#![tactic(auto)]
+
 pub mod access;
 pub mod cells;
 pub mod change;

@@ -1,6 +1,8 @@
 // Days that should behave as the rules say, each reported on standard output under its name. The expected
 // output is not ours: `peer/expected.sh` has an independent program work it out from the files that
 // `scenarios DIR` writes.
+#![tactic(auto)]
+
 mod named;
 mod random;
 #[cfg(test)]

@@ -1,4 +1,6 @@
 // The readings that are kept, as rows of a borrowed table of numbers.
+#![tactic(auto)]
+
 ghost use Rattle.std.specs.Prelude.{◌≡◌, ◌+◌, ◌-◌, ◌*◌, ◌≤◌, not, length, drop, replicate};
 ghost use Rattle.model.specs.Sessions.{contains as Contains, insert_reading};
 ghost use Rattle.model.specs.Store.{kept_only};

@@ -1,4 +1,6 @@
 // Does the commands of a file and prints what changes. Until the store stands it works over the reference.
+#![tactic(auto)]
+
 use anyhow::anyhow;
 use cli::Tool;
 use cli::options::Options;

@@ -1,4 +1,6 @@
 // The store in a borrowed row of numbers: opened, and changed by commands.
+#![tactic(auto)]
+
 pub mod applying;
 pub mod capacity;
 mod checks;

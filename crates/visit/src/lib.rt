@@ -1,4 +1,6 @@
 // Readings, visits, ledger lines and the terms: values by value, and the named tests on them.
+#![tactic(auto)]
+
 ghost use Rattle.std.specs.Prelude.{◌≡◌, ◌+◌, ◌^◌, ◌<◌};
 ghost use Rattle.visit.specs.Lines.{day_of, line_before, line_minus, line_of, line_plus, same_key};
 ghost use Rattle.visit.specs.Readings.{gap_of, reading_before, same_reading};
