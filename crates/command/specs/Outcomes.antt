@@ -1,5 +1,5 @@
 -- What a command brings: the visits retracted and added, or a refusal.
-use Rattle.std.specs.Prelude.{ℕ, ◌+◌, List, length, vec_items}
+use Rattle.std.specs.Prelude.{◌+◌, List, length, vec_items}
 use Rattle.visit.specs.declared.Visit.{Visit}
 use Rattle.command.specs.declared.Answer.{Answer}
 use Rattle.command.specs.declared.Answer.TheVariants.{Changed, Refused as Answer-refused}
