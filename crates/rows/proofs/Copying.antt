@@ -1,8 +1,8 @@
 -- Rows written one behind the other.
-use Rattle.std.proofs.Common.{◌≡◌, ℕ, suc, ◌+◌, ◌-◌, ◌*◌, ◌<◌, ◌≤◌, Bool, true, false, List, [], ◌∷◌, ◌++◌, length, get_or, take, drop, filter, sym, refl, ap, ◌∙◌, add-zero, suc-mul, add-mul, add_comm, zero-mul, add-one, arith}
+use Rattle.std.proofs.Common.{◌≡◌, ℕ, suc, ◌+◌, ◌*◌, ◌<◌, ◌≤◌, Bool, true, false, List, [], ◌∷◌, ◌++◌, length, get_or, take, drop, filter, sym, ap, ◌∙◌, add-zero, suc-mul, add-mul, add_comm, zero-mul, add-one, arith}
 use Rattle.std.proofs.lemmas.List.Elements.{filter-append, filter_more}
 use Rattle.std.proofs.lemmas.List.{append_assoc, append-nil, drop_at, drop-drop, flat_map_more, length-append, length-take-le, take-append-drop, take_at, take_more}
-use Rattle.rows.specs.Rows.{Laws, cells_of, rows_in}
+use Rattle.rows.specs.Rows.{Laws, cells_of}
 use Rattle.rows.proofs.Products.{row_ends}
 
 -- A write of v cells where what has been written ends.

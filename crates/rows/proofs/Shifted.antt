@@ -1,9 +1,9 @@
 -- The rows after a row was put in or taken out.
-use Rattle.std.proofs.Common.{◌≡◌, ℕ, suc, ◌+◌, ◌-◌, ◌*◌, ◌<◌, ◌≤◌, List, ◌∷◌, ◌++◌, length, take, drop, sym, refl, ap, ◌∙◌, subst, suc-mul, arith}
+use Rattle.std.proofs.Common.{◌≡◌, ℕ, suc, ◌+◌, ◌-◌, ◌*◌, ◌<◌, ◌≤◌, List, ◌++◌, length, take, drop, sym, ◌∙◌, suc-mul, arith}
 use Rattle.std.specs.List.{between, insert, remove}
 use Rattle.std.proofs.lemmas.List.Edits.{length-between}
 use Rattle.std.proofs.lemmas.List.{drop_at, length-drop, length-take-le, take-append-le, take-take}
-use Rattle.rows.specs.Cells.{closed_up, opened}
+use Rattle.rows.specs.Cells.{opened}
 use Rattle.rows.specs.Rows.{Laws, rows_in}
 use Rattle.rows.proofs.Products.{row_ends, rows_left, rows_rise}
 use Rattle.rows.proofs.Splits.{drop_rows, rows_append, rows_front, rows_taken, take_rows}

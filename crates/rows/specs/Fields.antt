@@ -1,6 +1,6 @@
 -- The numbers at places that follow one another are a part of the list.
 use Rattle.std.specs.Prelude.{◌≡◌, ℕ, zero, suc, ◌+◌, ◌<◌, ◌≤◌, List, [], ◌∷◌, length, take, drop, slice_index, refl}
-use Rattle.std.proofs.Common.{sym, ap, ◌∙◌, arith, drop-cons}
+use Rattle.std.proofs.Common.{arith, drop-cons}
 
 abbrev pub fields_from : ℕ → ℕ → List ℕ → List ℕ
 fields_from i zero xs = []

@@ -10,9 +10,9 @@ use crate::row::Row;
 
 pub fn insert<R: Row>(table: &mut [u64], n: usize, at: usize, row: R)
     requires place { at ≤ n }
-    requires room { n * width + width ≤ length table.old }
-    ensures stored { table.new ≡ take (at * width) table.old ++ (cells row ++ (between (at * width) (n * width) table.old ++ drop (n * width + width) table.old)) }
-    ensures rows { rows_in width made (n + 1) table.new ≡ insert (rows_in width made n table.old) at row }
+    requires room { n * R.width + R.width ≤ length table.old }
+    ensures stored { table.new ≡ take (at * R.width) table.old ++ (R.cells row ++ (between (at * R.width) (n * R.width) table.old ++ drop (n * R.width + R.width) table.old)) }
+    ensures rows { rows_in R.width R.made (n + 1) table.new ≡ insert (rows_in R.width R.made n table.old) at row }
 {
     let w = R::width();
     open(table, at * w, n * w, w);
@@ -22,9 +22,9 @@ pub fn insert<R: Row>(table: &mut [u64], n: usize, at: usize, row: R)
 // The cells of the last row, which has come nearer, are 0.
 pub fn remove<R: Row>(table: &mut [u64], n: usize, at: usize)
     requires place { at < n }
-    requires room { n * width ≤ length table.old }
-    ensures stored { table.new ≡ closed_up (at * width) (n * width) width table.old }
-    ensures rows { rows_in width made (n - 1) table.new ≡ remove (rows_in width made n table.old) at }
+    requires room { n * R.width ≤ length table.old }
+    ensures stored { table.new ≡ closed_up (at * R.width) (n * R.width) R.width table.old }
+    ensures rows { rows_in R.width R.made (n - 1) table.new ≡ remove (rows_in R.width R.made n table.old) at }
 {
     let w = R::width();
     close(table, at * w, n * w, w);
@@ -33,8 +33,8 @@ pub fn remove<R: Row>(table: &mut [u64], n: usize, at: usize)
 // The rows from `from` up to n, moved so that they begin at row `to`.
 pub fn shift<R: Row>(table: &mut [u64], n: usize, from: usize, to: usize)
     requires place { from ≤ n }
-    requires room { (n + (to - from)) * width ≤ length table.old }
-    ensures { table.new ≡ shifted width n from to table.old }
+    requires room { (n + (to - from)) * R.width ≤ length table.old }
+    ensures { table.new ≡ shifted R.width n from to table.old }
 {
     let w = R::width();
     if from < to {
@@ -47,9 +47,9 @@ pub fn shift<R: Row>(table: &mut [u64], n: usize, from: usize, to: usize)
 // The `gone` rows from `at` on give way to other rows, more or fewer.
 pub fn replace<R: Row>(table: &mut [u64], n: usize, at: usize, gone: usize, rows: &[R])
     requires place { at + gone ≤ n }
-    requires room { (n + (length rows.now - gone)) * width ≤ length table.old }
-    ensures stored { table.new ≡ take (at * width) table.old ++ (cells_of cells rows.now ++ (between ((at + gone) * width) (n * width) table.old ++ (replicate ((gone - length rows.now) * width) 0 ++ drop ((n + (length rows.now - gone)) * width) table.old))) }
-    ensures rows { rows_in width made (n - gone + length rows.now) table.new ≡ take at (rows_in width made n table.old) ++ (rows.now ++ drop (at + gone) (rows_in width made n table.old)) }
+    requires room { (n + (length rows.now - gone)) * R.width ≤ length table.old }
+    ensures stored { table.new ≡ take (at * R.width) table.old ++ (cells_of R.cells rows.now ++ (between ((at + gone) * R.width) (n * R.width) table.old ++ (replicate ((gone - length rows.now) * R.width) 0 ++ drop ((n + (length rows.now - gone)) * R.width) table.old))) }
+    ensures rows { rows_in R.width R.made (n - gone + length rows.now) table.new ≡ take at (rows_in R.width R.made n table.old) ++ (rows.now ++ drop (at + gone) (rows_in R.width R.made n table.old)) }
 {
     shift::<R>(table, n, at + gone, at + rows.len());
     put_all(table, at, rows);

@@ -11,8 +11,8 @@ use crate::test::Keep;
 
 // The place of the first row that passes, or n.
 pub fn find<R: Row, K: Keep<R>>(table: &[u64], n: usize, test: &K) -> usize
-    requires { n * width ≤ length table.now }
-    ensures { result ≡ first_of (passes test.now) (rows_in width made n table.now) }
+    requires { n * R.width ≤ length table.now }
+    ensures { result ≡ first_of (K.passes test.now) (rows_in R.width R.made n table.now) }
 {
     for i in 0..n {
         if test.keeps(row_at::<R>(table, i)) {
@@ -24,11 +24,11 @@ pub fn find<R: Row, K: Keep<R>>(table: &[u64], n: usize, test: &K) -> usize
 
 // Rows that pass move to the front in their order, and the cells that they leave are 0.
 pub fn keep<R: Row, K: Keep<R>>(table: &mut [u64], n: usize, test: &K) -> usize
-    requires { n * width ≤ length table.old }
+    requires { n * R.width ≤ length table.old }
     ensures few { result ≤ n }
-    ensures passed { rows_in width made result table.new ≡ filter (passes test.now) (rows_in width made n table.old) }
-    ensures free { between (result * width) (n * width) table.new ≡ replicate (n * width - result * width) 0 }
-    ensures rest { drop (n * width) table.new ≡ drop (n * width) table.old }
+    ensures passed { rows_in R.width R.made result table.new ≡ filter (K.passes test.now) (rows_in R.width R.made n table.old) }
+    ensures free { between (result * R.width) (n * R.width) table.new ≡ replicate (n * R.width - result * R.width) 0 }
+    ensures rest { drop (n * R.width) table.new ≡ drop (n * R.width) table.old }
 {
     let mut to = 0;
     for i in 0..n {
@@ -50,10 +50,10 @@ pub fn copy_passing<R: Row, K: Keep<R>>(
     test: &K,
     target: &mut [u64],
 ) -> usize
-    requires within { n * width ≤ length table.now }
-    requires room { length (filter (passes test.now) (rows_in width made n table.now)) * width ≤ length target.old }
-    ensures many { result ≡ length (filter (passes test.now) (rows_in width made n table.now)) }
-    ensures stored { target.new ≡ cells_of cells (filter (passes test.now) (rows_in width made n table.now)) ++ drop (result * width) target.old }
+    requires within { n * R.width ≤ length table.now }
+    requires room { length (filter (K.passes test.now) (rows_in R.width R.made n table.now)) * R.width ≤ length target.old }
+    ensures many { result ≡ length (filter (K.passes test.now) (rows_in R.width R.made n table.now)) }
+    ensures stored { target.new ≡ cells_of R.cells (filter (K.passes test.now) (rows_in R.width R.made n table.now)) ++ drop (result * R.width) target.old }
 {
     let mut count = 0;
     for i in 0..n {

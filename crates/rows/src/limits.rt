@@ -13,8 +13,8 @@ pub const COUNT_LIMIT: u64 = 1 << 40;
 pub const SUM_LIMIT: u64 = 1 << 52;
 
 pub fn first_over<R: Row>(table: &[u64], n: usize) -> Option<usize>
-    requires { n * width ≤ length table.now }
-    ensures { result ≡ first_over 0 (repeat n limits) table.now }
+    requires { n * R.width ≤ length table.now }
+    ensures { result ≡ first_over 0 (repeat n R.limits) table.now }
 {
     let w = R::width();
     for i in 0..n {

@@ -1,4 +1,4 @@
-use Rattle.std.proofs.Common.{◌≡◌, ◌+◌, ◌*◌, ◌<◌, ◌++◌, length, take, drop, ap, ◌∙◌, arith}
+use Rattle.std.proofs.Common.{◌≡◌, ◌+◌, ◌*◌, ◌++◌, length, take, drop, ap, ◌∙◌, arith}
 use Rattle.std.proofs.lemmas.List.{append_assoc, take_all}
 use Rattle.rows.specs.Rows.{cells_of}
 use Rattle.rows.proofs.Copying.{put_more, put_none}
@@ -8,8 +8,8 @@ use Rattle.rows.proofs.access.put_all.Goals as goal
 pub loop-j-init : goal.loop-j-init
 loop-j-init g c = put_none g.R.Row.laws c.args.at c.args.rows.now c.args.table.now
 
-pub overflow-add-at : goal.overflow-add-at
-overflow-add-at g c = omega (arith, rows_many g.R.Row.width (c.args.at + length c.args.rows.now) g.R.Row.laws.some)
+pub overflow_add-at : goal.overflow_add-at
+overflow_add-at g c = omega (arith, rows_many g.R.Row.width (c.args.at + length c.args.rows.now) g.R.Row.laws.some)
 
 pub put-requires : goal.put-requires
 put-requires g c = omega (arith, row_ends g.R.Row.width (c.args.at + c.loop-j.j) (c.args.at + length c.args.rows.now) (omega arith))

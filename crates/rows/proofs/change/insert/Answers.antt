@@ -1,4 +1,4 @@
-use Rattle.std.proofs.Common.{◌≡◌, ◌+◌, ◌*◌, ◌≤◌, ◌++◌, length, drop, ap, ◌∙◌, arith}
+use Rattle.std.proofs.Common.{◌+◌, ◌*◌, drop, ap, ◌∙◌, arith}
 use Rattle.rows.specs.Cells.{opened}
 use Rattle.rows.specs.Rows.{rows_in}
 use Rattle.rows.proofs.Products.{rows_rise}

@@ -1,4 +1,4 @@
-use Rattle.std.proofs.Common.{◌≡◌, ◌+◌, ◌-◌, ◌*◌, ◌≤◌, ◌++◌, length, drop, replicate, ap, ◌∙◌, arith}
+use Rattle.std.proofs.Common.{◌-◌, ◌*◌, ◌++◌, drop, replicate, ap, ◌∙◌, arith}
 use Rattle.rows.specs.Cells.{closed_up}
 use Rattle.rows.specs.Rows.{rows_in}
 use Rattle.rows.proofs.Products.{row_ends}

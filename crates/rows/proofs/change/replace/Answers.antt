@@ -1,15 +1,15 @@
-use Rattle.std.proofs.Common.{◌≡◌, ◌+◌, ◌-◌, ◌*◌, ◌≤◌, ◌++◌, length, drop, replicate, ap, ◌∙◌, arith}
+use Rattle.std.proofs.Common.{◌+◌, ◌-◌, ◌*◌, ◌≤◌, ◌++◌, length, drop, replicate, ap, ◌∙◌, arith}
 use Rattle.std.specs.List.{between}
 use Rattle.rows.specs.Rows.{cells_of, rows_in}
 use Rattle.rows.proofs.Products.{rows_many, rows_rise}
 use Rattle.rows.proofs.Replaced.{front_written, rows_replaced, shifted_by}
 use Rattle.rows.proofs.change.replace.Goals as goal
 
-pub overflow-add-at-2 : goal.overflow-add-at-2
-overflow-add-at-2 g c = omega (arith, rows_many g.R.Row.width (c.args.n + (length c.args.rows.now - c.args.gone)) g.R.Row.laws.some)
+pub overflow_add-at-2 : goal.overflow_add-at-2
+overflow_add-at-2 g c = omega (arith, rows_many g.R.Row.width (c.args.n + (length c.args.rows.now - c.args.gone)) g.R.Row.laws.some)
 
-pub put-all-requires : goal.put-all-requires
-put-all-requires g c =
+pub put_all-requires : goal.put_all-requires
+put_all-requires g c =
     let k = length c.args.rows.now in
     omega (arith, rows_rise g.R.Row.width (c.args.at + k) (c.args.n + (k - c.args.gone)) (omega arith))
 
@@ -26,7 +26,7 @@ returns g c =
     let inside = rows_rise r.width (c.args.at + k) (c.args.n + (k - c.args.gone)) (omega arith) in
     let whole = rows_rise r.width c.args.n (c.args.n + (k - c.args.gone)) (omega arith) in
     let moved = c.shift.ensures ∙ shifted_by r.width c.args.n c.args.at c.args.gone k xs in
-    let stored = c.put-all.ensures
+    let stored = c.put_all.ensures
     ∙ front_written start end xs c.shift.new.table (cells_of r.cells rs) (between ((c.args.at + c.args.gone) * r.width) (c.args.n * r.width) xs ++ behind) order (omega arith) moved in
     record {
       stored = stored;

@@ -1,4 +1,4 @@
-use Rattle.std.proofs.Common.{◌≡◌, ◌+◌, ◌-◌, ◌*◌, ◌≤◌, ◌∙◌, add-mul, arith}
+use Rattle.std.proofs.Common.{◌+◌, ◌-◌, ◌∙◌, add-mul, arith}
 use Rattle.rows.proofs.Products.{rows_rise}
 use Rattle.rows.proofs.Replaced.{rows_from, shifted_close, shifted_none, shifted_open}
 use Rattle.rows.proofs.change.shift.Goals as goal

@@ -1,4 +1,4 @@
-use Rattle.std.proofs.Common.{◌≡◌, ◌+◌, ◌*◌, ◌<◌, ◌≤◌, not, ◌++◌, length, take, drop, filter, sym, refl, ap, ◌∙◌, arith}
+use Rattle.std.proofs.Common.{◌*◌, ◌<◌, ◌≤◌, not, ◌++◌, length, take, drop, filter, refl, ap, ◌∙◌, arith}
 use Rattle.std.proofs.lemmas.List.Filters.{length-filter_both}
 use Rattle.std.proofs.lemmas.List.{length-take, take_all}
 use Rattle.rows.specs.Rows.{cells_of, rows_in}
@@ -6,10 +6,10 @@ use Rattle.rows.proofs.Copying.{copied_no, copied_yes, passing_room}
 use Rattle.rows.proofs.Products.{row_ends}
 use Rattle.rows.proofs.Splits.{length_rows}
 use Rattle.rows.proofs.choose.copy_passing.Goals as goal
-use Rattle.rows.proofs.choose.copy_passing.Goals.{then_Keeps, else-keeps}
+use Rattle.rows.proofs.choose.copy_passing.Goals.{then-keeps, else-keeps}
 
-pub row-at-row-requires : goal.row-at-row-requires
-row-at-row-requires g c = omega (arith, row_ends g.R.Row.width c.loop-i.i c.args.n c.loop-i-test.true)
+pub row_at-row-requires : goal.row_at-row-requires
+row_at-row-requires g c = omega (arith, row_ends g.R.Row.width c.loop-i.i c.args.n c.loop-i-test.true)
 
 pub put-requires : goal.put-requires
 put-requires g c =
@@ -17,12 +17,12 @@ put-requires g c =
     let p = g.K.Keep.passes c.args.test.now in
     let rs = rows_in r.width r.made c.args.n c.args.table.now in
     let within : c.loop-i.i < length rs = rw (length_rows r.width r.made c.args.n c.args.table.now) c.loop-i-test.true in
-    let read = c.row-at-row.ensures c.args.n c.row-at-row.result c.loop-i-test.true in
-    let room = passing_room r.laws p rs c.loop-i.count c.loop-i.i c.row-at-row.result within read c.if-keeps.ensures c.loop-i.invariant.0 in
+    let read = c.row_at-row.ensures c.args.n c.row_at-row.result c.loop-i-test.true in
+    let room = passing_room r.laws p rs c.loop-i.count c.loop-i.i c.row_at-row.result within read c.if-keeps.ensures c.loop-i.invariant.0 in
     omega (arith, row_ends r.width c.loop-i.count (length (filter p rs)) room)
 
-pub overflow-add-count : goal.overflow-add-count
-overflow-add-count g c =
+pub overflow_add-count : goal.overflow_add-count
+overflow_add-count g c =
     let r = g.R.Row in
     let p = g.K.Keep.passes c.args.test.now in
     let passing = length-filter_both p (λ x. not (p x)) (λ x. refl) (take c.loop-i.i (rows_in r.width r.made c.args.n c.args.table.now)) in
@@ -34,13 +34,13 @@ loop-i-preserved g c =
     let p = g.K.Keep.passes c.args.test.now in
     let rs = rows_in r.width r.made c.args.n c.args.table.now in
     let within : c.loop-i.i < length rs = rw (length_rows r.width r.made c.args.n c.args.table.now) c.loop-i-test.true in
-    let read = c.row-at-row.ensures c.args.n c.row-at-row.result c.loop-i-test.true in
+    let read = c.row_at-row.ensures c.args.n c.row_at-row.result c.loop-i-test.true in
     elim c.if-keeps.branch [
-      | then_Keeps w ↦ rw (w.target-is, w.count-is)
-          (copied_yes r.laws p rs c.loop-i.count c.loop-i.i c.args.target.now c.loop-i.target c.loop-i.invariant c.row-at-row.result within read
+      | then-keeps w ↦ rw (w.target-is, w.count-is)
+          (copied_yes r.laws p rs c.loop-i.count c.loop-i.i c.args.target.now c.loop-i.target c.loop-i.invariant c.row_at-row.result within read
           w.put.new.table w.if-keeps.ensures w.put.ensures.stored)
       | else-keeps w ↦ rw (w.target-is, w.count-is)
-          (copied_no r.laws p rs c.loop-i.count c.loop-i.i c.args.target.now c.loop-i.target c.loop-i.invariant c.row-at-row.result within read
+          (copied_no r.laws p rs c.loop-i.count c.loop-i.i c.args.target.now c.loop-i.target c.loop-i.invariant c.row_at-row.result within read
           w.if-keeps.ensures)
     ]
 

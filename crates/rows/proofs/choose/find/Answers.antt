@@ -1,12 +1,10 @@
-use Rattle.std.proofs.Common.{◌≡◌, ◌<◌, ◌≤◌, true, false, length, get_or, sym, ap, ◌∙◌, arith}
-use Rattle.rows.specs.Rows.{rows_in}
+use Rattle.std.proofs.Common.{arith}
 use Rattle.rows.proofs.Firsts.{first_end, first_here, first_past}
 use Rattle.rows.proofs.Products.{row_ends}
-use Rattle.rows.proofs.Splits.{length_rows}
 use Rattle.rows.proofs.choose.find.Goals as goal
 
-pub row-at-requires : goal.row-at-requires
-row-at-requires g c = omega (arith, row_ends g.R.Row.width c.loop-i.i c.args.n c.loop-i-test.true)
+pub row_at-requires : goal.row_at-requires
+row_at-requires g c = omega (arith, row_ends g.R.Row.width c.loop-i.i c.args.n c.loop-i-test.true)
 
 pub returns-then-keeps : goal.returns-then-keeps
 returns-then-keeps g c =
@@ -14,8 +12,8 @@ returns-then-keeps g c =
     omega (
       arith,
       c.loop-i.invariant,
-      first_here (g.K.Keep.passes c.args.test.now) r.width r.made c.args.n c.args.table.now c.loop-i.i c.row-at.result
-          c.loop-i-test.true (c.row-at.ensures c.args.n c.row-at.result c.loop-i-test.true) c.if-keeps.ensures,
+      first_here (g.K.Keep.passes c.args.test.now) r.width r.made c.args.n c.args.table.now c.loop-i.i c.row_at.result
+          c.loop-i-test.true (c.row_at.ensures c.args.n c.row_at.result c.loop-i-test.true) c.if-keeps.ensures,
     )
 
 pub loop-i-preserved : goal.loop-i-preserved
@@ -24,8 +22,8 @@ loop-i-preserved g c =
     omega (
       arith,
       c.loop-i.invariant,
-      first_past (g.K.Keep.passes c.args.test.now) r.width r.made c.args.n c.args.table.now c.loop-i.i c.row-at.result
-          c.loop-i-test.true (c.row-at.ensures c.args.n c.row-at.result c.loop-i-test.true) c.if-keeps.ensures,
+      first_past (g.K.Keep.passes c.args.test.now) r.width r.made c.args.n c.args.table.now c.loop-i.i c.row_at.result
+          c.loop-i-test.true (c.row_at.ensures c.args.n c.row_at.result c.loop-i-test.true) c.if-keeps.ensures,
     )
 
 pub returns : goal.returns

@@ -1,4 +1,4 @@
-use Rattle.std.proofs.Common.{◌≡◌, ◌*◌, ◌<◌, ◌≤◌, length, drop, ap, ◌∙◌, arith}
+use Rattle.std.proofs.Common.{◌*◌, ◌<◌, ◌≤◌, length, drop, ap, ◌∙◌, arith}
 use Rattle.std.specs.List.{between}
 use Rattle.rows.specs.Cells.{cleared}
 use Rattle.rows.specs.Rows.{rows_in}
@@ -6,10 +6,10 @@ use Rattle.rows.proofs.Filtering.{filtered_all, filtered_no, filtered_yes}
 use Rattle.rows.proofs.Moved.{cleared_free, cleared_rest, cleared_rows}
 use Rattle.rows.proofs.Products.{row_ends, rows_rise}
 use Rattle.rows.proofs.choose.keep.Goals as goal
-use Rattle.rows.proofs.choose.keep.Goals.{then_Keeps, else-keeps}
+use Rattle.rows.proofs.choose.keep.Goals.{then-keeps, else-keeps}
 
-pub row-at-row-requires : goal.row-at-row-requires
-row-at-row-requires g c = omega (arith, row_ends g.R.Row.width c.loop-i.i c.args.n c.loop-i-test.true)
+pub row_at-row-requires : goal.row_at-row-requires
+row_at-row-requires g c = omega (arith, row_ends g.R.Row.width c.loop-i.i c.args.n c.loop-i-test.true)
 
 pub put-requires : goal.put-requires
 put-requires g c =
@@ -20,13 +20,13 @@ pub loop-i-preserved : goal.loop-i-preserved
 loop-i-preserved g c =
     let r = g.R.Row in
     let p = g.K.Keep.passes c.args.test.now in
-    let read = c.row-at-row.ensures c.args.n c.row-at-row.result c.loop-i-test.true in
+    let read = c.row_at-row.ensures c.args.n c.row_at-row.result c.loop-i-test.true in
     elim c.if-keeps.branch [
-      | then_Keeps w ↦ rw (w.table-is, w.to-is)
-          (filtered_yes r.laws p c.args.n c.args.table.now c.loop-i.table c.loop-i.to c.loop-i.i c.loop-i.invariant c.row-at-row.result c.loop-i-test.true read
+      | then-keeps w ↦ rw (w.table-is, w.to-is)
+          (filtered_yes r.laws p c.args.n c.args.table.now c.loop-i.table c.loop-i.to c.loop-i.i c.loop-i.invariant c.row_at-row.result c.loop-i-test.true read
           w.put.new.table w.if-keeps.ensures (omega arith) w.put.ensures.stored (w.put.ensures.rows c.args.n (omega (arith, c.loop-i.invariant.0.behind))))
       | else-keeps w ↦ rw (w.table-is, w.to-is)
-          (filtered_no r.laws p c.args.n c.args.table.now c.loop-i.table c.loop-i.to c.loop-i.i c.loop-i.invariant c.row-at-row.result c.loop-i-test.true read
+          (filtered_no r.laws p c.args.n c.args.table.now c.loop-i.table c.loop-i.to c.loop-i.i c.loop-i.invariant c.row_at-row.result c.loop-i-test.true read
           w.if-keeps.ensures)
     ]
 
