@@ -82,7 +82,7 @@ impl fmt::Display for Entry {
 
 // A line of text can fail only for want of memory.
 fn put_line<D: fmt::Display + Drop>(text: &mut String, line: D) -> Result<(), AllocError>
-    ensures { OnOk result (IfSome (option_append (output line) (Some (10 ∷ []))) (λ bs. string_bytes text.new ≡ string_bytes text.old ++ bs)) }
+    ensures { OnOk result (IfSome (option_append (D.output line) (Some (10 ∷ []))) (λ bs. string_bytes text.new ≡ string_bytes text.old ++ bs)) }
 {
     match text.writeln(line) {
         Ok(()) => Ok(()),

@@ -3,17 +3,17 @@ use Rattle.std.proofs.lemmas.Bool.Decides.{nat_tests}
 use Rattle.feed.specs.Files.{decoded}
 use Rattle.feed.proofs.files.front.Goals as goal
 
-pub returns-in-default : goal.returns-in-default
+pub returns-in_default : goal.returns-in_default
 unfolding decoded
-returns-in-default c = grind (arith, nat_tests)
+returns-in_default c = grind (arith, nat_tests)
 
-pub returns-then-bytes-ge-READING-SIZE : goal.returns-then-bytes-ge-READING-SIZE
+pub returns-then-bytes-ge-READING_SIZE : goal.returns-then-bytes-ge-READING_SIZE
 unfolding decoded
-returns-then-bytes-ge-READING-SIZE c = grind (arith, nat_tests)
+returns-then-bytes-ge-READING_SIZE c = grind (arith, nat_tests)
 
-pub returns-then-bytes-ge-WATERMARK-SIZE : goal.returns-then-bytes-ge-WATERMARK-SIZE
+pub returns-then-bytes-ge-WATERMARK_SIZE : goal.returns-then-bytes-ge-WATERMARK_SIZE
 unfolding decoded
-returns-then-bytes-ge-WATERMARK-SIZE c = grind (arith, nat_tests)
+returns-then-bytes-ge-WATERMARK_SIZE c = grind (arith, nat_tests)
 
 pub returns : goal.returns
 unfolding decoded

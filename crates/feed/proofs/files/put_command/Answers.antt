@@ -4,14 +4,14 @@ use Rattle.std.proofs.lemmas.Bool.Decides.{nat_tests}
 use Rattle.feed.specs.Files.{command_bytes, storable}
 use Rattle.feed.proofs.files.put_command.Goals as goal
 
-pub returns-then-e-ge-WORD-LIMIT : goal.returns-then-e-ge-WORD-LIMIT
+pub returns-then-e-ge-WORD_LIMIT : goal.returns-then-e-ge-WORD_LIMIT
 unfolding storable
-returns-then-e-ge-WORD-LIMIT c = grind (arith, nat_tests)
+returns-then-e-ge-WORD_LIMIT c = grind (arith, nat_tests)
 
-pub returns-else-e-ge-WORD-LIMIT-3 : goal.returns-else-e-ge-WORD-LIMIT-3
-returns-else-e-ge-WORD-LIMIT-3 c =
-    let row : c.reading-row.result ≡ command_bytes c.args.command = simp c.in-Reading.is c.reading-row.ensures.value in
-    let stored : storable c.args.command ≡ true = cc c.reading-row.ensures.stored in
+pub returns-else-e-ge-WORD_LIMIT-3 : goal.returns-else-e-ge-WORD_LIMIT-3
+returns-else-e-ge-WORD_LIMIT-3 c =
+    let row : c.reading_row.result ≡ command_bytes c.args.command = simp c.in-Reading.is c.reading_row.ensures.value in
+    let stored : storable c.args.command ≡ true = cc c.reading_row.ensures.stored in
     record {
       items = simp (← row) c.append.ensures.items;
       cases = simp stored (MatchResult-weaker c.append.result c.append.ensures.cases (λ _ _. refl) (λ _ p. p));

@@ -10,7 +10,7 @@ loop-line-init c = search rules
 pub loop-line-preserved : goal.loop-line-preserved
 unfolding ledger_text
 loop-line-preserved c =
-    lines_more (λ l. ended (line_text l)) _ _ _ _ _ _ c.loop-line-test.true c.loop-line.invariant c.in-ok-put-line.ensures
+    lines_more (λ l. ended (line_text l)) _ _ _ _ _ _ c.loop-line-test.true c.loop-line.invariant c.in_ok-put_line.ensures
 
 pub returns : goal.returns
 unfolding ledger_text
