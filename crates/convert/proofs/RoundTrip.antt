@@ -1,5 +1,5 @@
 -- What is packed and unpacked again is the same day.
-use Rattle.std.proofs.Common.{◌≡◌, ℕ, List, drop, Some, Ok, Err, Option, Result, sym, refl, ap, ◌∙◌, arith}
+use Rattle.std.proofs.Common.{◌≡◌, ℕ, List, Some, Ok, Err, Option, sym, refl, ap, ◌∙◌, arith}
 use Rattle.std.specs.Option.{option_map}
 use Rattle.std.specs.List.{flat_map, AllByRecursion as All}
 use Rattle.std.proofs.lemmas.List.{drop_at}
@@ -7,7 +7,6 @@ use Rattle.visit.specs.declared.Terms.{Terms}
 use Rattle.command.specs.declared.Command.{Command}
 use Rattle.feed.specs.Files.{body, command_bytes, commands, terms_bytes, terms_in, unread}
 use Rattle.feed.proofs.Encoding.{round_trip}
-use Rattle.days.specs.declared.BadLine.{BadLine}
 use Rattle.days.specs.Parsing.{parsed_day, then}
 use Rattle.days.specs.RoundTrip.{CommandFits, TermsFit}
 use Rattle.days.specs.Writing.{day_text}

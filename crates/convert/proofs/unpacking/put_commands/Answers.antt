@@ -14,7 +14,7 @@ loop-command-preserved c =
     let next = c.in-Some.next in
     let before = string_bytes c.loop-command.text in
     let decoded = sym c.in-Some.ensures.value in (
-      part_moved before _ (command_text c.in-Some.command) _ _ c.in-ok-put-command.ensures
+      part_moved before _ (command_text c.in-Some.command) _ _ c.in_ok-put_command.ensures
           (ap (λ (cs : List Command). before ++ flat_map command_text cs) (sym (commands_from at bs c.in-Some.command next decoded)) ∙ c.loop-command.invariant.0),
       sym (unread_from at bs c.in-Some.command next decoded) ∙ c.loop-command.invariant.1,
       c.in-Some.ensures.bound.1,
@@ -25,7 +25,7 @@ returns c =
     let bs = c.args.bytes.now in
     let at = c.loop-command.at in
     let before = string_bytes c.loop-command.text in
-    let ended = sym c.in-default.ensures.value in
+    let ended = sym c.in_default.ensures.value in
     record {
       lines = sym (append-nil before) ∙ ap (λ (cs : List Command). before ++ flat_map command_text cs) (sym (commands_from_end at bs ended)) ∙ c.loop-command.invariant.0;
       rest = sym (unread_from_end at bs ended) ∙ c.loop-command.invariant.1;

@@ -11,6 +11,6 @@ returns c =
     let file = c.args.file.now in
     let t = c.in-Some.terms in
     day_unpacks file t _ _ c.in-Some.ensures.value
-    (two_parts _ _ _ (terms_text t) _ c.new-text.ensures.bytes c.in-ok-put-terms.ensures c.in-ok-unread.ensures.lines
+    (two_parts _ _ _ (terms_text t) _ c.new-text.ensures.bytes c.in_ok-put_terms.ensures c.in_ok-unread.ensures.lines
     ∙ ap (λ (l : List ℕ). day_text t (commands l)) (take_rest file 24))
-    (c.in-ok-unread.ensures.rest ∙ ap unread (take_rest file 24))
+    (c.in_ok-unread.ensures.rest ∙ ap unread (take_rest file 24))

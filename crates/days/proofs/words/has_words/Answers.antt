@@ -11,5 +11,5 @@ returns-else-count-eq0 c =
     let s = short c.args.text.now c.args.count in
     let p = short c.args.text.now (c.args.count - 1) in grind (arith, nat_tests)
 
-pub returns-else-is-empty : goal.returns-else-is-empty
-returns-else-is-empty c = let s = short c.args.text.now c.args.count in grind (arith, nat_tests)
+pub returns-else-is_empty : goal.returns-else-is_empty
+returns-else-is_empty c = let s = short c.args.text.now c.args.count in grind (arith, nat_tests)

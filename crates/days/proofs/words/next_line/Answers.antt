@@ -5,13 +5,13 @@ use Rattle.days.specs.declared.words.Class.TheVariants.{Line}
 use Rattle.days.specs.Words.{belongs}
 use Rattle.days.proofs.words.next_line.Goals as goal
 
-pub returns-then-is-empty : goal.returns-then-is-empty
-returns-then-is-empty c =
+pub returns-then-is_empty : goal.returns-then-is_empty
+returns-then-is_empty c =
     let s = lines_step c.args.text.now c.requires in
     let b = beyond_short (belongs Line) c.args.text.now in search (rules, nil_from_length)
 
-pub returns-else-is-empty : goal.returns-else-is-empty
-returns-else-is-empty c =
+pub returns-else-is_empty : goal.returns-else-is_empty
+returns-else-is_empty c =
     let s = lines_step c.args.text.now c.requires in
     let b = beyond_short (belongs Line) c.args.text.now in
     let r = take_rest c.cut.result.1.now 1 in
