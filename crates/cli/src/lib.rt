@@ -13,7 +13,8 @@ use anyhow::anyhow;
 use flags::Flag;
 use options::{Options, Usage};
 use std::io::{Read, Write};
-use std::{env, fs};
+use std::process::ExitCode;
+use std::{env, fmt, fs};
 
 const VERSION: &str = "0.1.0";
 
@@ -92,32 +93,64 @@ pub trait Tool {
     fn process(&self, rt: &HostRuntime, options: &Options, file: &[u8]) -> anyhow::Result<usize>;
 }
 
-// Runs a program, and says in one line on standard error what went wrong.
-pub fn run<T: Tool>(rt: &HostRuntime, tool: &T) -> anyhow::Result<()> {
-    let result = attempt(rt, tool);
-    if let Err(e) = &result {
-        let name = tool.name();
-        let _ = eprintln!(rt; "{name}: {e}");
-    }
-    result
+// Why a run fails. The path of a file that cannot be read stands beside the error, which keeps 120 bytes of text at most.
+#[derive(Drop)]
+struct Failure {
+    path: Option<String>,
+    error: anyhow::Error,
 }
 
-fn attempt<T: Tool>(rt: &HostRuntime, tool: &T) -> anyhow::Result<()> {
+impl fmt::Display for Failure {
+    fn fmt<W: fmt::Write>(&self, f: &mut fmt::Formatter<W>) -> fmt::Result {
+        if let Some(path) = &self.path {
+            write!(f, "{path}: ")?;
+        }
+        write!(f, "{}", self.error)
+    }
+}
+
+impl<E: Into<anyhow::Error>> From<E> for Failure {
+    fn from(error: E) -> Failure {
+        Failure {
+            path: None,
+            error: error.into(),
+        }
+    }
+}
+
+// Runs a program, and says in one line on standard error what went wrong.
+pub fn run<T: Tool>(rt: &HostRuntime, tool: &T) -> ExitCode {
+    let Err(e) = attempt(rt, tool) else {
+        return ExitCode::SUCCESS;
+    };
+    let name = tool.name();
+    let _ = eprintln!(rt; "{name}: {e}");
+    ExitCode::FAILURE
+}
+
+fn attempt<T: Tool>(rt: &HostRuntime, tool: &T) -> Result<(), Failure> {
     let options = gather(rt)?;
     let name = tool.name();
     if options.help {
-        return output(rt, tool.help().as_bytes());
+        output(rt, tool.help().as_bytes())?;
+        return Ok(());
     }
     if options.version {
         println!(rt; "{name} {VERSION}")?;
         return Ok(());
     }
-    let file = input(rt, &options.file)?;
+    let file = match input(rt, &options.file) {
+        Ok(file) => file,
+        Err(error) => return Err(Failure {
+            path: options.file,
+            error,
+        }),
+    };
     let unread = tool.process(rt, &options, file.as_slice())?;
     if unread > 0 {
         let at = file.len().saturating_sub(unread);
         if options.strict {
-            return Err(anyhow!(format!(in rt.alloc(); "stopped at byte {at}: {STOPPED}")?));
+            return Err(anyhow!("stopped at byte {at}: {STOPPED}").into());
         }
         eprintln!(rt; "{name}: stopped at byte {at}: {STOPPED}")?;
     }
@@ -147,10 +180,7 @@ fn input(rt: &HostRuntime, file: &Option<String>) -> anyhow::Result<Vec<u8>> {
             rt.stdin().read_to_end(&mut bytes)?;
             Ok(bytes)
         }
-        Some(path) => match fs::read(rt, path.as_str()) {
-            Ok(bytes) => Ok(bytes),
-            Err(e) => Err(anyhow!(format!(in rt.alloc(); "{path}: {e}")?)),
-        },
+        Some(path) => Ok(fs::read(rt, path.as_str())?),
     }
 }
 

@@ -5,6 +5,7 @@ use anyhow::anyhow;
 use cli::Tool;
 use cli::options::Options;
 use convert::PackError;
+use std::process::ExitCode;
 
 const HELP: &str =
     "pack [FILE]\npack --unpack [--strict] [FILE]\n\nWrites the command file of a day in text, FILE or standard input; nothing is written if a line is bad.\nWith --unpack it writes the text of a command file.\n\n  --unpack   the other way\n  --strict   end with status 1 if the command file ends within a command or has one of unknown kind\n  --help     print this and end\n  --version  print the version and end\n";
@@ -35,7 +36,7 @@ fn pack_text(rt: &HostRuntime, text: &[u8]) -> anyhow::Result<usize> {
             cli::output(rt, file.as_slice())?;
             Ok(0)
         }
-        Err(PackError::BadLine(line)) => Err(anyhow!(format!(in rt.alloc(); "{line}")?)),
+        Err(PackError::BadLine(line)) => Err(anyhow!("{line}")),
         Err(PackError::NoMemory) => Err(anyhow!("out of memory")),
     }
 }
@@ -48,6 +49,6 @@ fn unpack_file(rt: &HostRuntime, file: &[u8]) -> anyhow::Result<usize> {
     Ok(day.unread)
 }
 
-fn main(rt: HostRuntime) -> anyhow::Result<()> {
+fn main(rt: HostRuntime) -> ExitCode {
     cli::run(&rt, &Packer)
 }

@@ -4,6 +4,7 @@
 use anyhow::anyhow;
 use cli::Tool;
 use cli::options::Options;
+use std::process::ExitCode;
 
 const HELP: &str =
     "settle [--strict] [FILE]\n\nReads a command file, FILE or standard input, and prints for each command the visits retracted (-) and\nadded (+) or why it was refused, and at the end the ledger.\n\n  --strict   end with status 1 if the file ends within a command or has one of unknown kind\n  --help     print this and end\n  --version  print the version and end\n";
@@ -28,6 +29,6 @@ impl Tool for Settle {
     }
 }
 
-fn main(rt: HostRuntime) -> anyhow::Result<()> {
+fn main(rt: HostRuntime) -> ExitCode {
     cli::run(&rt, &Settle)
 }
