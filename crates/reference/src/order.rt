@@ -34,7 +34,7 @@ impl Ordered for Line {
 // How many elements come before this one, from the front.
 pub fn place<T: Ordered>(items: &[T], item: T, terms: Terms) -> usize
     ensures within { result ≤ length items.now }
-    ensures splits { (f : List T → List T) → at_place (λ x. precedes terms x item) f items.now ≡ take result items.now ++ f (drop result items.now) }
+    ensures splits { (f : List T → List T) → at_place (λ x. T.precedes terms x item) f items.now ≡ take result items.now ++ f (drop result items.now) }
 {
     for (i, x) in items.iter().enumerate() {
         if !x.precedes(item, terms) {

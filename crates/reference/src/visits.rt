@@ -85,7 +85,7 @@ impl Test for Missing<'_> {
 
 // The visits that pass a test, in order.
 pub fn passing<T: Test>(heap: Global, visits: &[Visit], test: &T) -> Result<Vec<Visit>, AllocError>
-    ensures { IfOk result (λ v. v.items ≡ filter (passes test.now) visits.now) }
+    ensures { IfOk result (λ v. v.items ≡ filter (T.passes test.now) visits.now) }
 {
     let mut some = Vec::new(heap);
     for v in visits {

@@ -25,7 +25,7 @@ fn apply_one<S: Sessions>(
     text: &mut String,
     command: Command,
 ) -> Result<(), AllocError>
-    ensures { OnOk result ((cs : List Command) → string_bytes text.new ++ prints sessions.new cs ≡ string_bytes text.old ++ prints sessions.old (command ∷ cs)) }
+    ensures { OnOk result ((cs : List Command) → string_bytes text.new ++ S.prints sessions.new cs ≡ string_bytes text.old ++ S.prints sessions.old (command ∷ cs)) }
 {
     let answer = sessions.apply(heap, command)?;
     put_answer(text, &answer)?;
@@ -38,7 +38,7 @@ pub fn run<S: Sessions + Drop>(
     mut sessions: S,
     bytes: &[u8],
 ) -> Result<Report, AllocError>
-    ensures text { IfOk result (λ p. string_bytes p.text ≡ prints sessions (commands bytes.now)) }
+    ensures text { IfOk result (λ p. string_bytes p.text ≡ S.prints sessions (commands bytes.now)) }
     ensures rest { IfOk result (λ p. p.unread ≡ Unread bytes.now) }
 {
     let mut text = String::new(heap);

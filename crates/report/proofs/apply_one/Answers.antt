@@ -8,6 +8,6 @@ pub returns : goal.returns
 returns g c = λ cs.
     let before = string_bytes c.args.text.now in
     let rest = g.S.Sessions.prints c.apply.new.self cs in
-    ap (λ bs. bs ++ rest) c.in-ok-put-answer.ensures
-    ∙ append_assoc before (outcome_text (outcome_of c.in-ok-answer.answer)) rest
-    ∙ ap (λ bs. before ++ bs) (sym (c.in-ok-answer.ensures cs))
+    ap (λ bs. bs ++ rest) c.in_ok-put_answer.ensures
+    ∙ append_assoc before (outcome_text (outcome_of c.in_ok-answer.answer)) rest
+    ∙ ap (λ bs. before ++ bs) (sym (c.in_ok-answer.ensures cs))

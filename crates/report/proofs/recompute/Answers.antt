@@ -13,9 +13,9 @@ returns c =
     let cs = commands (take (length file - 24) (drop 24 file)) in (
       t,
       sym c.in-Some.ensures.value,
-      c.in-ok-report.ensures.text
+      c.in_ok-report.ensures.text
           ∙ ap (λ u. reference_prints u (model_of c.new.result) cs) new.terms
           ∙ ap (λ k. reference_prints t k cs) new.state
           ∙ ap (λ bs. recompute_text t (commands bs)) (take_rest file 24),
-      c.in-ok-report.ensures.rest ∙ ap unread (take_rest file 24),
+      c.in_ok-report.ensures.rest ∙ ap unread (take_rest file 24),
     )

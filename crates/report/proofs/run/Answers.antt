@@ -8,7 +8,7 @@ pub loop-command-preserved : goal.loop-command-preserved
 loop-command-preserved g c =
     let bs = c.args.bytes.now in
     let decoded = sym c.in-Some.ensures.value in (
-      c.in-ok-apply-one.ensures (commands (drop c.in-Some.next bs))
+      c.in_ok-apply_one.ensures (commands (drop c.in-Some.next bs))
           ∙ ap (λ cs. string_bytes c.loop-command.text ++ g.S.Sessions.prints c.loop-command.sessions cs) (sym (commands_from c.loop-command.at bs c.in-Some.command c.in-Some.next decoded))
           ∙ c.loop-command.invariant.0,
       sym (unread_from c.loop-command.at bs c.in-Some.command c.in-Some.next decoded) ∙ c.loop-command.invariant.1,
@@ -19,11 +19,11 @@ pub returns : goal.returns
 returns g c =
     let bs = c.args.bytes.now in
     let at = c.loop-command.at in
-    let ended = sym c.in-default.ensures.value in
+    let ended = sym c.in_default.ensures.value in
     record {
-      text = c.in-ok-put-ledger.ensures
+      text = c.in_ok-put_ledger.ensures
           ∙ ap (λ bs. string_bytes c.loop-command.text ++ bs)
-          (ap ledger_text c.as-slice.ensures.value ∙ sym c.in-ok-lines.ensures
+          (ap ledger_text c.as_slice.ensures.value ∙ sym c.in_ok-lines.ensures
           ∙ ap (g.S.Sessions.prints c.loop-command.sessions) (sym (commands_from_end at bs ended)))
           ∙ c.loop-command.invariant.0;
       rest = sym (unread_from_end at bs ended) ∙ c.loop-command.invariant.1;

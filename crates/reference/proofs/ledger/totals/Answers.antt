@@ -1,20 +1,20 @@
-use Rattle.std.proofs.Common.{◌≡◌, ◌+◌, length, get_or, drop, vec_items, sym, refl, ap, ◌∙◌, arith}
+use Rattle.std.proofs.Common.{◌+◌, drop, vec_items, sym, refl, ap, ◌∙◌, arith}
 use Rattle.std.proofs.lemmas.List.{at_drop_more, at_drop_all}
-use Rattle.std.proofs.lemmas.List.Sums.{sum_by-drop_more, sum_by-take-drop}
+use Rattle.std.proofs.lemmas.List.Sums.{sum_by-drop_more}
 use Rattle.visit.specs.declared.Line.{Line}
 use Rattle.visit.specs.declared.Visit.{Visit}
 use Rattle.visit.specs.Lines.{line_of}
 use Rattle.model.specs.Ledger.{add_line, add_visits}
-use Rattle.reference.specs.Sums.{line_sums, line_visits, sums}
+use Rattle.reference.specs.Sums.{line_sums, line_visits}
 use Rattle.reference.proofs.Entries.{add_shares}
 use Rattle.reference.proofs.ledger.totals.Goals as goal
 
 none : Visit
 none = record { card = 0; from = 0; to = 0; count = 0; sum = 0 }
 
-pub add-to-requires : goal.add-to-requires
+pub add_to-requires : goal.add_to-requires
 unfolding none line_of
-add-to-requires c =
+add_to-requires c =
     record {
       visits = omega (arith, c.loop-v.invariant.1, ap (λ (l : Line). l.visits) c.line.ensures);
       sum = omega (
@@ -31,7 +31,7 @@ loop-v-preserved c =
     let vs = c.args.visits.now in
     let i = c.loop-v.v-index in
     let lines = vec_items c.loop-v.lines in
-    let more = c.in-ok-add-to.ensures in (
+    let more = c.in_ok-add_to.ensures in (
       ap (add_visits c.args.terms (drop (i + 1) vs)) (more ∙ ap (λ l. add_line c.args.terms l lines) c.line.ensures)
           ∙ sym (at_drop_more (λ ws. add_visits c.args.terms ws lines) vs i none c.loop-v-test.true) ∙ c.loop-v.invariant.0,
       omega (

@@ -2,7 +2,6 @@ use Rattle.std.proofs.Common.{◌≡◌, [], ◌∷◌, reverse, vec_items, sym,
 use Rattle.std.proofs.lemmas.List.{reverse-append}
 use Rattle.std.proofs.lemmas.List.Sums.{sum_by-cons}
 use Rattle.visit.specs.declared.Visit.{Visit}
-use Rattle.visit.specs.Visits.{grown, single}
 use Rattle.reference.specs.Sums.{counts, sums}
 use Rattle.reference.proofs.Backwards.{prepend_joins, prepend_apart}
 use Rattle.reference.proofs.visits.prepend.Goals as goal
@@ -17,13 +16,13 @@ grown-requires c =
       sum = omega (arith, ap sums turned, sum_by-cons (λ (v : Visit). v.sum) c.in-Some.front (reverse init));
     }
 
-pub returns-in-ok-push-2 : goal.returns-in-ok-push-2
-returns-in-ok-push-2 c =
+pub returns-in_ok-push-2 : goal.returns-in_ok-push-2
+returns-in_ok-push-2 c =
     prepend_joins c.args.terms c.args.e (vec_items c.args.backwards.now) (vec_items c.pop.new.self) _ c.in-Some.front
-    c.in-Some.ensures.items (sym c.if-joins.ensures) (simp c.grown.ensures at c.in-ok-push-2.ensures.items)
+    c.in-Some.ensures.items (sym c.if-joins.ensures) (simp c.grown.ensures at c.in_ok-push-2.ensures.items)
 
-pub returns-in-ok-push-4 : goal.returns-in-ok-push-4
-returns-in-ok-push-4 c =
+pub returns-in_ok-push-4 : goal.returns-in_ok-push-4
+returns-in_ok-push-4 c =
     prepend_apart c.args.terms c.args.e (vec_items c.args.backwards.now) (vec_items c.pop.new.self) _ c.in-Some.front
     c.in-Some.ensures.items (sym c.if-joins.ensures)
-    (simp (c.single-else-joins.ensures, c.in-ok-push-3.ensures.items) at c.in-ok-push-4.ensures.items)
+    (simp (c.single-else-joins.ensures, c.in_ok-push-3.ensures.items) at c.in_ok-push-4.ensures.items)

@@ -1,4 +1,4 @@
-use Rattle.std.proofs.Common.{◌≡◌, length, drop, sym, refl, ap, ◌∙◌, arith}
+use Rattle.std.proofs.Common.{length, drop, sym, refl, ap, ◌∙◌, arith}
 use Rattle.std.proofs.lemmas.List.{drop_all, length-drop}
 use Rattle.visit.specs.declared.Reading.{Reading}
 use Rattle.model.specs.Sessions.{prepend, visits}
@@ -29,5 +29,5 @@ prepend-requires c =
 pub loop-i-preserved : goal.loop-i-preserved
 unfolding none
 loop-i-preserved c =
-    c.in-ok-prepend.ensures ∙ ap (prepend c.args.terms _) c.loop-i.invariant
+    c.in_ok-prepend.ensures ∙ ap (prepend c.args.terms _) c.loop-i.invariant
     ∙ sym (ap (visits c.args.terms) (drop_back c.args.readings.now c.loop-i.i none c.loop-i-test.true c.loop-i.auto.i))

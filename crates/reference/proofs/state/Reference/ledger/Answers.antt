@@ -15,7 +15,7 @@ totals-requires c =
     let all = vec_items c.args.self.now.readings in
     omega (
       arith,
-      ap sums (c.as-slice.ensures.value ∙ c.in-ok-closed.ensures),
+      ap sums (c.as_slice.ensures.value ∙ c.in_ok-closed.ensures),
       visits_sums t all,
       sum_by-filter_both (closed t m) (λ v. not (closed t m v)) (λ v. refl) (λ (v : Visit). v.sum) (visits t all),
       c.args.self.now.small,
