@@ -1,6 +1,6 @@
 // A visit merged into the visits of a table.
 ghost use Rattle.std.specs.Prelude.{◌≡◌, ◌+◌, ◌-◌, ◌*◌, ◌^◌, ◌<◌, ◌≤◌, max, ◌++◌, length, drop, replicate};
-ghost use Rattle.live.specs.Tables.{counts, sums, visits_in};
+ghost use Rattle.live.specs.Tables.{counts, sums, visits_held, visits_in};
 ghost use Rattle.model.specs.Store.{merge_in};
 ghost use Rattle.rows.specs.Visits.{visit_width};
 ghost use Rattle.std.specs.List.{insert};
@@ -62,6 +62,8 @@ pub fn merge(table: &mut [u64], n: usize, visit: Visit, terms: Terms) -> usize
     ensures few { result ≤ n + 1 }
     ensures rows { visits_in result table.new ≡ merge_in terms visit (visits_in n table.old) }
     ensures behind { drop (result * visit_width) table.new ≡ replicate (n * visit_width - result * visit_width) 0 ++ drop (max n result * visit_width) table.old }
+    ensures many { result ≡ length (merge_in terms visit (visits_in n table.old)) }
+    ensures table { table.new ≡ visits_held (max n result) (merge_in terms visit (visits_in n table.old)) table.old }
 {
     let placed = absorb(table, n, visit, terms);
     insert(table, placed.others, placed.at, placed.visit);
