@@ -1,1 +1,5 @@
 pub mod Walking
+pub mod Held
+pub mod Parts
+pub mod Stepping
+pub mod Aside

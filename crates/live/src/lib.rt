@@ -4,3 +4,4 @@
 pub mod expiry;
 pub mod merging;
 pub mod open;
+pub mod steps;
