@@ -3,3 +3,6 @@ pub mod Held
 pub mod Parts
 pub mod Stepping
 pub mod Aside
+pub mod Together
+pub mod Collecting
+pub mod Wholes
