@@ -1,1 +1,8 @@
 pub mod Walking
+pub mod Held
+pub mod Parts
+pub mod Stepping
+pub mod Aside
+pub mod Together
+pub mod Collecting
+pub mod Wholes

@@ -1,5 +1,5 @@
 -- A visit merged in from the front, with the table as it stands on the way.
-use Rattle.std.proofs.Common.{◌≡◌, ℕ, zero, suc, ◌+◌, ◌-◌, ◌*◌, ◌^◌, ◌<◌, ◌≤◌, max, Bool, true, false, List, [], ◌∷◌, ◌++◌, length, get_or, take, drop, replicate, sum_by, sym, refl, ap, ◌∙◌, arith}
+use Rattle.std.proofs.Common.{◌≡◌, ℕ, zero, suc, ◌+◌, ◌-◌, ◌*◌, ◌^◌, ◌<◌, ◌≤◌, max, true, false, List, [], ◌∷◌, ◌++◌, length, get_or, take, drop, replicate, sum_by, sym, refl, ap, ◌∙◌, arith}
 use Rattle.std.specs.List.{between, insert, remove}
 use Rattle.std.proofs.lemmas.List.{append_assoc, drop_all, drop_at, drop-drop, drop_more, length-append, length-take-le, replicate-append-replicate, take_at, take_more}
 use Rattle.std.proofs.lemmas.List.Edits.{length-between}

@@ -1,1 +1,4 @@
 pub mod Tables
+pub mod Steps
+pub mod Walk
+pub mod Apart

@@ -1,6 +1,6 @@
 // Visits that have expired leave the table.
 ghost use Rattle.std.specs.Prelude.{◌≡◌, ◌-◌, ◌*◌, ◌≤◌, length, drop, replicate};
-ghost use Rattle.live.specs.Tables.{visits_in};
+ghost use Rattle.live.specs.Tables.{visits_held, visits_in};
 ghost use Rattle.model.specs.Store.{live_only};
 ghost use Rattle.rows.specs.Visits.{visit_width};
 ghost use Rattle.std.specs.List.{between};
@@ -32,6 +32,8 @@ pub fn expire(table: &mut [u64], n: usize, terms: Terms, watermark: u64) -> usiz
     ensures lasting { visits_in result table.new ≡ live_only terms watermark (visits_in n table.old) }
     ensures free { between (result * visit_width) (n * visit_width) table.new ≡ replicate (n * visit_width - result * visit_width) 0 }
     ensures rest { drop (n * visit_width) table.new ≡ drop (n * visit_width) table.old }
+    ensures many { result ≡ length (live_only terms watermark (visits_in n table.old)) }
+    ensures table { table.new ≡ visits_held n (live_only terms watermark (visits_in n table.old)) table.old }
 {
     let test = Live { terms, watermark };
     keep::<Visit, Live>(table, n, &test)

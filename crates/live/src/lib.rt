@@ -2,5 +2,7 @@
 #![tactic(auto)]
 
 pub mod expiry;
+pub mod gathering;
 pub mod merging;
 pub mod open;
+pub mod steps;

@@ -9,3 +9,4 @@ pub mod Shifted
 pub mod Overs
 pub mod Copying
 pub mod Replaced
+pub mod Holding

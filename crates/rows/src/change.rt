@@ -1,7 +1,7 @@
 // A row put between the rows of a table, and a row taken out.
 ghost use Rattle.std.specs.Prelude.{◌≡◌, ◌+◌, ◌-◌, ◌*◌, ◌<◌, ◌≤◌, ◌++◌, length, take, drop, replicate};
 ghost use Rattle.rows.specs.Cells.{closed_up, shifted};
-ghost use Rattle.rows.specs.Rows.{cells_of, rows_in};
+ghost use Rattle.rows.specs.Rows.{cells_of, holding, rows_in};
 ghost use Rattle.std.specs.List.{between, insert, remove};
 
 use crate::access::{put, put_all};
@@ -13,6 +13,7 @@ pub fn insert<R: Row>(table: &mut [u64], n: usize, at: usize, row: R)
     requires room { n * R.width + R.width ≤ length table.old }
     ensures stored { table.new ≡ take (at * R.width) table.old ++ (R.cells row ++ (between (at * R.width) (n * R.width) table.old ++ drop (n * R.width + R.width) table.old)) }
     ensures rows { rows_in R.width R.made (n + 1) table.new ≡ insert (rows_in R.width R.made n table.old) at row }
+    ensures held { table.new ≡ holding R.width R.cells (n + 1) (insert (rows_in R.width R.made n table.old) at row) table.old }
 {
     let w = R::width();
     open(table, at * w, n * w, w);
@@ -25,6 +26,7 @@ pub fn remove<R: Row>(table: &mut [u64], n: usize, at: usize)
     requires room { n * R.width ≤ length table.old }
     ensures stored { table.new ≡ closed_up (at * R.width) (n * R.width) R.width table.old }
     ensures rows { rows_in R.width R.made (n - 1) table.new ≡ remove (rows_in R.width R.made n table.old) at }
+    ensures held { table.new ≡ holding R.width R.cells n (remove (rows_in R.width R.made n table.old) at) table.old }
 {
     let w = R::width();
     close(table, at * w, n * w, w);

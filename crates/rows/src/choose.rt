@@ -1,6 +1,6 @@
 // The rows of a table that pass a test.
 ghost use Rattle.std.specs.Prelude.{◌≡◌, ◌-◌, ◌*◌, ◌≤◌, ◌++◌, length, drop, replicate, filter};
-ghost use Rattle.rows.specs.Rows.{cells_of, rows_in};
+ghost use Rattle.rows.specs.Rows.{cells_of, holding, rows_in};
 ghost use Rattle.rows.specs.Tests.{first_of};
 ghost use Rattle.std.specs.List.{between};
 
@@ -29,6 +29,8 @@ pub fn keep<R: Row, K: Keep<R>>(table: &mut [u64], n: usize, test: &K) -> usize
     ensures passed { rows_in R.width R.made result table.new ≡ filter (K.passes test.now) (rows_in R.width R.made n table.old) }
     ensures free { between (result * R.width) (n * R.width) table.new ≡ replicate (n * R.width - result * R.width) 0 }
     ensures rest { drop (n * R.width) table.new ≡ drop (n * R.width) table.old }
+    ensures many { result ≡ length (filter (K.passes test.now) (rows_in R.width R.made n table.old)) }
+    ensures table { table.new ≡ holding R.width R.cells n (filter (K.passes test.now) (rows_in R.width R.made n table.old)) table.old }
 {
     let mut to = 0;
     for i in 0..n {

@@ -5,6 +5,8 @@ use crate::limits::{COUNT_LIMIT, SUM_LIMIT};
 use crate::row::Row;
 use visit::Line;
 
+pub const LINE_WIDTH: usize = 4;
+
 impl Row for Line {
     ghost width = { line_width };
 
@@ -19,7 +21,7 @@ impl Row for Line {
     ghost limited = { line_limited };
 
     fn width() -> usize {
-        4
+        LINE_WIDTH
     }
 
     fn read(source: &[u64]) -> Line {

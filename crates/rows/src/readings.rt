@@ -5,6 +5,8 @@ use crate::limits::TIME_LIMIT;
 use crate::row::Row;
 use visit::Reading;
 
+pub const READING_WIDTH: usize = 4;
+
 impl Row for Reading {
     ghost width = { reading_width };
 
@@ -19,7 +21,7 @@ impl Row for Reading {
     ghost limited = { reading_limited };
 
     fn width() -> usize {
-        4
+        READING_WIDTH
     }
 
     fn read(source: &[u64]) -> Reading {

@@ -5,6 +5,8 @@ use crate::limits::{COUNT_LIMIT, SUM_LIMIT, TIME_LIMIT};
 use crate::row::Row;
 use visit::Visit;
 
+pub const VISIT_WIDTH: usize = 5;
+
 impl Row for Visit {
     ghost width = { visit_width };
 
@@ -19,7 +21,7 @@ impl Row for Visit {
     ghost limited = { visit_limited };
 
     fn width() -> usize {
-        5
+        VISIT_WIDTH
     }
 
     fn read(source: &[u64]) -> Visit {

@@ -5,7 +5,7 @@ ghost use Rattle.std.specs.Prelude.{◌≡◌, ◌+◌, ◌-◌, ◌*◌, ◌≤
 ghost use Rattle.model.specs.Sessions.{contains as Contains, insert_reading};
 ghost use Rattle.model.specs.Store.{kept_only};
 ghost use Rattle.rows.specs.Readings.{reading_width};
-ghost use Rattle.seen.specs.Table.{readings_in};
+ghost use Rattle.seen.specs.Table.{readings_held, readings_in};
 ghost use Rattle.std.specs.List.{between};
 ghost use Rattle.visit.specs.Readings.{kept as Kept, reading_before, same_reading};
 
@@ -35,6 +35,8 @@ pub fn expire(table: &mut [u64], n: usize, terms: Terms, watermark: u64) -> usiz
     ensures readings { readings_in result table.new ≡ kept_only terms watermark (readings_in n table.old) }
     ensures free { between (result * reading_width) (n * reading_width) table.new ≡ replicate (n * reading_width - result * reading_width) 0 }
     ensures rest { drop (n * reading_width) table.new ≡ drop (n * reading_width) table.old }
+    ensures many { result ≡ length (kept_only terms watermark (readings_in n table.old)) }
+    ensures table { table.new ≡ readings_held n (kept_only terms watermark (readings_in n table.old)) table.old }
 {
     let in_time = InTime { terms, watermark };
     keep::<Reading, InTime>(table, n, &in_time)
@@ -84,6 +86,7 @@ pub fn insert(table: &mut [u64], n: usize, reading: Reading, terms: Terms)
     requires { n * reading_width + reading_width ≤ length table.old }
     ensures readings { readings_in (n + 1) table.new ≡ insert_reading terms reading (readings_in n table.old) }
     ensures rest { drop (n * reading_width + reading_width) table.new ≡ drop (n * reading_width + reading_width) table.old }
+    ensures held { table.new ≡ readings_held (n + 1) (insert_reading terms reading (readings_in n table.old)) table.old }
 {
     let not_before = NotBefore { terms, reading };
     let at = find::<Reading, NotBefore>(table, n, &not_before);

@@ -1,4 +1,4 @@
-use Rattle.std.proofs.Common.{◌≡◌, ltb, length, sym, ap, ◌∙◌}
+use Rattle.std.proofs.Common.{ltb, sym, ap, ◌∙◌}
 use Rattle.visit.specs.Readings.{same_reading}
 use Rattle.rows.specs.Readings.{reading_made, reading_width}
 use Rattle.rows.proofs.Splits.{length_rows}

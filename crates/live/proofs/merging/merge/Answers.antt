@@ -1,6 +1,10 @@
-use Rattle.std.proofs.Common.{◌≡◌, ◌+◌, ◌-◌, ◌*◌, ◌≤◌, length, drop, sym, refl, ap, ◌∙◌, arith}
+use Rattle.std.proofs.Common.{◌≡◌, ◌+◌, ◌-◌, ◌*◌, ◌≤◌, max, ◌++◌, length, drop, replicate, sym, refl, ap, ◌∙◌, arith}
 use Rattle.std.proofs.lemmas.List.{drop-drop}
-use Rattle.rows.specs.Visits.{visit_cells, visit_width}
+use Rattle.model.specs.Store.{merge_in}
+use Rattle.rows.specs.Visits.{visit_cells, visit_laws, visit_made, visit_width}
+use Rattle.rows.proofs.Holding.{holding_is}
+use Rattle.rows.proofs.Splits.{length_rows}
+use Rattle.live.specs.Tables.{visits_in}
 use Rattle.live.proofs.Walking.{behind_inserted, free_taken}
 use Rattle.live.proofs.merging.merge.Goals as goal
 
@@ -14,11 +18,22 @@ returns c =
     let mid = c.absorb-placed.new.table in
     let room : o * visit_width + visit_width ≤ length mid = omega arith in
     let top : (o + 1) * visit_width ≡ o * visit_width + visit_width = omega arith in
+    let t = c.args.terms in
+    let v = c.args.visit in
+    let xs = c.args.table.now in
+    let ys = c.insert.new.table in
+    let rows = c.insert.ensures.rows ∙ c.absorb-placed.ensures.rows in
+    let behind = ap (λ k. drop k ys) top ∙ ap (drop (o * visit_width + visit_width)) c.insert.ensures.stored
+    ∙ behind_inserted (placed.at * visit_width) (o * visit_width) visit_width mid (visit_cells placed.visit) refl (omega arith) room
+    ∙ sym (drop-drop visit_width (o * visit_width) mid) ∙ ap (drop visit_width) c.absorb-placed.ensures.behind
+    ∙ free_taken (n - o) o n xs (omega arith) in
+    let many : o + 1 ≡ length (merge_in t v (visits_in n xs)) = sym (length_rows visit_width visit_made (o + 1) ys) ∙ ap length rows in
+    let free : n * visit_width - (o + 1) * visit_width ≡ (max n (o + 1) - (o + 1)) * visit_width = omega arith in
     record {
       few = omega arith;
-      rows = c.insert.ensures.rows ∙ c.absorb-placed.ensures.rows;
-      behind = ap (λ k. drop k c.insert.new.table) top ∙ ap (drop (o * visit_width + visit_width)) c.insert.ensures.stored
-          ∙ behind_inserted (placed.at * visit_width) (o * visit_width) visit_width mid (visit_cells placed.visit) refl (omega arith) room
-          ∙ sym (drop-drop visit_width (o * visit_width) mid) ∙ ap (drop visit_width) c.absorb-placed.ensures.behind
-          ∙ free_taken (n - o) o n c.args.table.now (omega arith);
+      rows = rows;
+      behind = behind;
+      many = many;
+      table = holding_is visit_laws (o + 1) (max n (o + 1)) (merge_in t v (visits_in n xs)) xs ys (omega arith) rows many
+          (behind ∙ ap (λ k. replicate k 0 ++ drop (max n (o + 1) * visit_width) xs) free);
     }

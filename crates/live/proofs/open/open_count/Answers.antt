@@ -1,4 +1,4 @@
-use Rattle.std.proofs.Common.{◌≡◌, ◌<◌, ◌≤◌, Bool, true, false, not, length, get_or, take, count_by, sym, ap, ◌∙◌, arith}
+use Rattle.std.proofs.Common.{◌≡◌, ◌<◌, ◌≤◌, Bool, true, false, not, length, get_or, count_by, sym, ap, ◌∙◌, arith}
 use Rattle.std.proofs.lemmas.List.{take_all}
 use Rattle.std.proofs.lemmas.List.Sums.{count_by_more_no, count_by_more_yes, length-filter}
 use Rattle.visit.specs.declared.Visit.{Visit}
@@ -13,9 +13,9 @@ pub loop-i-preserved : goal.loop-i-preserved
 loop-i-preserved c =
     let vs = visits_in c.args.n c.args.table.now in
     let i = c.loop-i.i in
-    let row = c.row-at-row.result in
+    let row = c.row_at-row.result in
     let p : Visit → Bool = λ v. not (closed c.args.terms c.args.watermark v) in
-    let read = c.row-at-row.ensures c.args.n row c.loop-i-test.true in
+    let read = c.row_at-row.ensures c.args.n row c.loop-i-test.true in
     let inside : i < length vs = omega (arith, length_rows visit_width visit_made c.args.n c.args.table.now) in
     elim c.if-not-closed.branch [
       | then-not-closed w ↦

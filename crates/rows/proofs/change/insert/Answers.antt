@@ -1,6 +1,7 @@
 use Rattle.std.proofs.Common.{◌+◌, ◌*◌, drop, ap, ◌∙◌, arith}
 use Rattle.rows.specs.Cells.{opened}
 use Rattle.rows.specs.Rows.{rows_in}
+use Rattle.rows.proofs.Holding.{holding_inserted}
 use Rattle.rows.proofs.Products.{rows_rise}
 use Rattle.rows.proofs.Shifted.{opened_written, rows_inserted}
 use Rattle.rows.proofs.change.insert.Goals as goal
@@ -25,4 +26,5 @@ returns g c =
       stored = stored;
       rows = ap (rows_in r.width r.made (c.args.n + 1)) stored
           ∙ rows_inserted r.laws xs c.args.at c.args.n c.args.row (drop (end + r.width) xs) c.requires.place (omega arith);
+      held = holding_inserted r.laws c.args.n xs c.put.new.table c.args.at c.args.row c.requires.place c.requires.room stored (omega arith);
     }

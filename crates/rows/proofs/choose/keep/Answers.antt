@@ -1,10 +1,12 @@
-use Rattle.std.proofs.Common.{◌*◌, ◌<◌, ◌≤◌, length, drop, ap, ◌∙◌, arith}
+use Rattle.std.proofs.Common.{◌*◌, ◌<◌, ◌≤◌, length, drop, sym, ap, ◌∙◌, arith}
 use Rattle.std.specs.List.{between}
 use Rattle.rows.specs.Cells.{cleared}
 use Rattle.rows.specs.Rows.{rows_in}
 use Rattle.rows.proofs.Filtering.{filtered_all, filtered_no, filtered_yes}
+use Rattle.rows.proofs.Holding.{holding_kept}
 use Rattle.rows.proofs.Moved.{cleared_free, cleared_rest, cleared_rows}
 use Rattle.rows.proofs.Products.{row_ends, rows_rise}
+use Rattle.rows.proofs.Splits.{length_rows}
 use Rattle.rows.proofs.choose.keep.Goals as goal
 use Rattle.rows.proofs.choose.keep.Goals.{then-keeps, else-keeps}
 
@@ -46,9 +48,14 @@ returns g c =
     let within : end ≤ length ys = omega arith in
     let clears = c.clear.ensures ∙ ap (λ u. cleared (c.loop-i.to * u) (c.args.n * u) ys) c.width-w.ensures in
     let all = filtered_all r.laws (g.K.Keep.passes c.args.test.now) c.args.n c.args.table.now ys c.loop-i.to c.loop-i.i c.loop-i.invariant c.loop-i-test.false in
+    let passed = ap (rows_in r.width r.made c.loop-i.to) clears ∙ cleared_rows start end ys order within r.laws c.loop-i.to (omega arith) ∙ all in
+    let free = ap (between start end) clears ∙ cleared_free start end ys order within in
+    let rest = ap (drop end) clears ∙ cleared_rest start end ys order within ∙ c.loop-i.invariant.1 in
     record {
       few = few;
-      passed = ap (rows_in r.width r.made c.loop-i.to) clears ∙ cleared_rows start end ys order within r.laws c.loop-i.to (omega arith) ∙ all;
-      free = ap (between start end) clears ∙ cleared_free start end ys order within;
-      rest = ap (drop end) clears ∙ cleared_rest start end ys order within ∙ c.loop-i.invariant.1;
+      passed = passed;
+      free = free;
+      rest = rest;
+      many = sym (length_rows r.width r.made c.loop-i.to c.clear.new.table) ∙ ap length passed;
+      table = holding_kept r.laws c.args.n c.args.table.now c.clear.new.table c.loop-i.to _ passed few (omega arith) free rest;
     }
