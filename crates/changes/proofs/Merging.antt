@@ -10,7 +10,7 @@ use Rattle.visit.specs.Visits.{closed, merged, near, same_visit, visit_before}
 use Rattle.model.specs.Sessions.{closed_visits, difference, some}
 use Rattle.model.specs.Store.{merge_in}
 use Rattle.model.proofs.Common.{In, all_in, kept_alike, kept_none, some_append, split}
-use Rattle.live.specs.Walk.{became, left_over, Placed-of, taken_in}
+use Rattle.live.specs.Walk.{became, left_over, placed_of, taken_in}
 use Rattle.changes.specs.Changed.{ByComparing, closed_besides, retracted_rows}
 use Rattle.changes.proofs.Differences.{closed_difference}
 
@@ -102,5 +102,5 @@ by_comparing t m v vs p rows q r =
     let taken = taken_in t v vs in
     let front : take (length rest) (rest ++ taken) ≡ rest = take_at rest taken (length rest) refl in
     let back : drop (length rest) (rest ++ taken) ≡ taken = drop_at rest taken (length rest) refl in
-    let gone : retracted_rows t m (Placed-of t v vs) (rest ++ taken) ≡ difference t (closed_visits t m vs) (closed_visits t m (merge_in t v vs)) = rw (front, back) (sym (retracted_by t m v vs)) in
+    let gone : retracted_rows t m (placed_of t v vs) (rest ++ taken) ≡ difference t (closed_visits t m vs) (closed_visits t m (merge_in t v vs)) = rw (front, back) (sym (retracted_by t m v vs)) in
     rw (q, r) (cc (gone, added_by t m v vs))

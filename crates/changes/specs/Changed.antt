@@ -7,7 +7,7 @@ use Rattle.command.specs.Outcomes.{Outcome, changed}
 use Rattle.model.specs.Sessions.{changes, closed_visits, some}
 use Rattle.model.specs.Store.{merge_in}
 use Rattle.live.specs.declared.merging.Placed.{Placed}
-use Rattle.live.specs.Walk.{left_over, Placed-of, taken_in}
+use Rattle.live.specs.Walk.{left_over, placed_of, taken_in}
 
 -- The visits stay, and the watermark goes from one time to another.
 abbrev pub rise : Terms → ℕ → ℕ → List Visit → Outcome
@@ -44,7 +44,7 @@ compared t m p rows = changed (retracted_rows t m p rows) (added_rows t m p rows
 abbrev pub ByComparing : Type 0
 ByComparing =
     (t : Terms) (m : ℕ) (v : Visit) (vs : List Visit) (p : Placed) (rows : List Visit)
-    → p ≡ Placed-of t v vs → rows ≡ left_over t v vs ++ taken_in t v vs → compared t m p rows ≡ merging t m v vs
+    → p ≡ placed_of t v vs → rows ≡ left_over t v vs ++ taken_in t v vs → compared t m p rows ≡ merging t m v vs
 
 -- Where visits are in order and apart none stands twice: those that are met were closed or not, and so is z, which they become.
 abbrev pub met_changes : Terms → ℕ → Visit → List Visit → Outcome

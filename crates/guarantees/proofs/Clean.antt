@@ -9,7 +9,7 @@ use Rattle.rows.specs.Readings.{reading_cells, reading_laws, reading_width}
 use Rattle.rows.specs.Rows.{Laws, cells_of, holding, rows_in}
 use Rattle.rows.specs.Visits.{visit_cells, visit_laws, visit_width}
 use Rattle.rows.proofs.Copying.{length_cells}
-use Rattle.rows.proofs.Holding.{holding-again}
+use Rattle.rows.proofs.Holding.{holding_again}
 use Rattle.rows.proofs.Products.{rows_left, rows_rise}
 use Rattle.rows.proofs.Splits.{rows_of_cells}
 use Rattle.store.specs.Contents.{empty_parts, empty_row, header_of, parts_after, row_after, store_in, store_of}
@@ -38,7 +38,7 @@ module _ {R : Type 0} {w : ℕ} {made : List ℕ → R} {cells : R → List ℕ}
       → holding w cells most qs (table w cells room rs) ≡ table w cells room qs
   table_after room most rs qs few less fits small =
       ap (holding w cells most qs) (table_held room rs)
-      ∙ holding-again laws room most rs qs [] small few less
+      ∙ holding_again laws room most rs qs [] small few less
       ∙ ap (λ n. holding w cells n qs []) (let top : max room most ≡ room = omega arith in top)
       ∙ sym (table_held room qs)
 

@@ -9,7 +9,7 @@ use Rattle.rows.specs.Lines.{line_laws}
 use Rattle.rows.specs.Readings.{reading_laws}
 use Rattle.rows.specs.Rows.{Laws, holding}
 use Rattle.rows.specs.Visits.{visit_laws}
-use Rattle.rows.proofs.Holding.{holding-rows, length-holding}
+use Rattle.rows.proofs.Holding.{holding_rows, length_holding}
 use Rattle.rows.proofs.Products.{rows_rise}
 use Rattle.store.specs.declared.header.Header.{Header}
 use Rattle.store.specs.Contents.{header_in, header_of, parts_after, row_after, store_in, store_of, terms_in}
@@ -30,7 +30,7 @@ table_long : {R : Type 0} {w : ℕ} {made : List ℕ → R} {cells : R → List 
     → length rs ≤ most → most ≤ room → length xs ≡ room * w → length (holding w cells most rs xs) ≡ room * w
 table_long {w = w} laws room most rs xs few fits long =
     let rise = rows_rise w most room fits in
-    length-holding laws most rs xs few (omega arith) ∙ long
+    length_holding laws most rs xs few (omega arith) ∙ long
 
 -- Stores that are equal part by part.
 pub same_store : (s : Store) (live : List Visit) (seen : List Reading) (ledger : List Line) → live ≡ s.live → seen ≡ s.seen → ledger ≡ s.ledger
@@ -57,7 +57,7 @@ module _ (xs : List ℕ) (d : Draft) (s : Store) (long : store_size ≤ length x
 
   pub store_back : store_in (row_after xs d s) ≡ s
   store_back = ap (store_of (header_of (terms_in xs) s)) parts_back
-      ∙ same_store s _ _ _ (holding-rows visit_laws _ s.live (parts xs).visits) (holding-rows reading_laws _ s.seen (parts xs).readings) (holding-rows line_laws _ s.ledger (parts xs).lines)
+      ∙ same_store s _ _ _ (holding_rows visit_laws _ s.live (parts xs).visits) (holding_rows reading_laws _ s.seen (parts xs).readings) (holding_rows line_laws _ s.ledger (parts xs).lines)
 
   pub length_back : length (row_after xs d s) ≡ length xs
   length_back = length_whole (parts_after (header_in xs) d s (parts xs)) sized_after ∙ omega (arith, length-drop store_size xs)

@@ -4,6 +4,6 @@
 
 pub mod answers;
 pub mod cards;
-pub mod changes;
 pub mod contents;
+pub mod corrections;
 pub mod refusals;

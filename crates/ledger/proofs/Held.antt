@@ -2,7 +2,7 @@
 use Rattle.std.proofs.Common.{◌≡◌, ℕ, ◌+◌, ◌-◌, ◌*◌, ◌<◌, ◌≤◌, max, List, ◌++◌, length, take, drop, set, sym, refl, ap, ◌∙◌, zero-mul, arith}
 use Rattle.std.proofs.lemmas.List.{length-set}
 use Rattle.rows.specs.Rows.{Laws, holding, rows_in}
-use Rattle.rows.proofs.Holding.{holding-again, holding-is, holding-rows}
+use Rattle.rows.proofs.Holding.{holding_again, holding_is, holding_rows}
 use Rattle.rows.proofs.Moved.{written_past}
 use Rattle.rows.proofs.Products.{row_ends}
 use Rattle.rows.proofs.Splits.{length_rows}
@@ -19,7 +19,7 @@ module _ {R : Type 0} {w : ℕ} {made : List ℕ → R} {cells : R → List ℕ}
   pub held_first : (n : ℕ) (xs : List ℕ) → n * w ≤ length xs → Held w cells n (rows_in w made n xs) xs xs n
   held_first n xs h =
       let long = sym (length_rows w made n xs) in
-      record { many = long; table = holding-is laws n n (rows_in w made n xs) xs xs h refl long (rw (none_free n)) }
+      record { many = long; table = holding_is laws n n (rows_in w made n xs) xs xs h refl long (rw (none_free n)) }
 
   pub holding_put : (n i : ℕ) (r : R) (xs ys : List ℕ) → i < n → n * w ≤ length xs → length ys ≡ length xs
       → ys ≡ take (i * w) xs ++ (cells r ++ drop (i * w + w) xs) → rows_in w made n ys ≡ set (rows_in w made n xs) i r
@@ -27,11 +27,11 @@ module _ {R : Type 0} {w : ℕ} {made : List ℕ → R} {cells : R → List ℕ}
   holding_put n i r xs ys h fits long stored rows =
       let ends = row_ends w i n h in
       let cell : i * w + length (cells r) ≡ i * w + w = rw (laws.long r) in
-      holding-is laws n n _ xs ys (omega arith) rows (sym (length-set (rows_in w made n xs) i r ∙ length_rows w made n xs))
+      holding_is laws n n _ xs ys (omega arith) rows (sym (length-set (rows_in w made n xs) i r ∙ length_rows w made n xs))
       (rw (none_free n) (ap (drop (n * w)) stored ∙ written_past (i * w) (i * w + w) (n * w) xs (cells r) (omega arith) cell ends))
 
   pub rows_held : (c m : ℕ) (rs : List R) (xs ys : List ℕ) → Held w cells m rs xs ys c → rows_in w made c ys ≡ rs
-  rows_held c m rs xs ys held = rw (held.many, held.table) (holding-rows laws m rs xs)
+  rows_held c m rs xs ys held = rw (held.many, held.table) (holding_rows laws m rs xs)
 
   -- After a function that answers r and does f to the c rows that it finds.
   pub held_next : (f : List R → List R) (m k most : ℕ) (rs qs : List R) (xs ys zs : List ℕ) (c r : ℕ) → Held w cells m rs xs ys c
@@ -44,6 +44,6 @@ module _ {R : Type 0} {w : ℕ} {made : List ℕ → R} {cells : R → List ℕ}
       record {
         many = result ∙ ap length (sym same);
         table = table ∙ ap (λ l. holding w cells k (f l) ys) rows ∙ ap (holding w cells k (f rs)) held.table
-            ∙ holding-again laws m k rs (f rs) xs (omega (arith, b.0, held.many)) (omega (arith, b.1, held.many)) (omega (arith, b.2))
+            ∙ holding_again laws m k rs (f rs) xs (omega (arith, b.0, held.many)) (omega (arith, b.1, held.many)) (omega (arith, b.2))
             ∙ ap (λ j. holding w cells j (f rs) xs) b.3 ∙ ap (λ l. holding w cells most l xs) (sym same);
       }

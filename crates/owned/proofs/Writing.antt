@@ -4,7 +4,7 @@ use Rattle.std.proofs.lemmas.Bool.Decides.{nat_tests}
 use Rattle.visit.specs.declared.Terms.{Terms}
 use Rattle.visit.specs.Readings.{too_late}
 use Rattle.command.specs.declared.Command.{Command}
-use Rattle.command.specs.declared.Command.TheVariants.{Reading as A-reading, Watermark}
+use Rattle.command.specs.declared.Command.TheVariants.{Reading as AReading, Watermark}
 use Rattle.command.specs.declared.Refusal.{Refusal}
 use Rattle.command.specs.declared.Reply.{Reply}
 use Rattle.model.specs.Reference.{Reference, empty, plan, state_by}
@@ -36,11 +36,11 @@ nothing : (c : Command) (k : Reference) → Takes c k k
 nothing c k = (omega arith, omega arith)
 
 plan_takes : (t : Terms) (k : Reference) (c : Command) → Takes c k (state_by k (plan t k c))
-plan_takes t k (A-reading e) =
+plan_takes t k (AReading e) =
     split (too_late t k.watermark e)
-    (λ l. simp l (nothing (A-reading e) k))
+    (λ l. simp l (nothing (AReading e) k))
     (λ l. split (contains t e k.readings)
-    (λ o. simp (l, o) (nothing (A-reading e) k))
+    (λ o. simp (l, o) (nothing (AReading e) k))
     (λ o. let n = length-insert t e k.readings in let a = amounts_insert t e k.readings in simp (l, o) (omega arith, omega arith)))
 plan_takes t k (Watermark m) = split (ltb m k.watermark) (λ o. simp o (nothing (Watermark m) k)) (λ o. simp o (nothing (Watermark m) k))
 
@@ -101,5 +101,5 @@ written_sound xs amount taken h w =
     ap sound_row (w.row ∙ l.row) ∙ sound_by (clean_row w.terms (image w.terms k) rest) (sound_now w.terms k l.stands n a rest)
 
 pub same_command : (c : Command) → command_in (command_cells c) ≡ c
-same_command (A-reading e) = refl
+same_command (AReading e) = refl
 same_command (Watermark m) = refl

@@ -10,10 +10,10 @@ use Rattle.store.specs.Contents.{header_in}
 use Rattle.store.specs.Faults.{verdict}
 use Rattle.store.specs.Layout.{lines_room, store_size}
 use Rattle.store.specs.Parts.{parts}
-use Rattle.command.specs.declared.Command.TheVariants.{Reading as A-reading, Watermark}
+use Rattle.command.specs.declared.Command.TheVariants.{Reading as AReading, Watermark}
 
 abbrev pub command_cells : Command → List ℕ
-command_cells (A-reading e) = 0 ∷ e.card ∷ e.time ∷ e.serial ∷ e.amount ∷ []
+command_cells (AReading e) = 0 ∷ e.card ∷ e.time ∷ e.serial ∷ e.amount ∷ []
 command_cells (Watermark m) = 1 ∷ m ∷ 0 ∷ 0 ∷ 0 ∷ []
 
 -- What a store in the row xs makes of a command, where `out` has n numbers: the outcome, and the row after it.

@@ -2,14 +2,14 @@
 use Rattle.std.specs.Prelude.{◌≡◌, ℕ, ◌≤◌, min, Bool, ◌&&◌, List, length, sum_by, nat_lt}
 use Rattle.visit.specs.declared.Terms.{Terms}
 use Rattle.command.specs.declared.Command.{Command}
-use Rattle.command.specs.declared.Command.TheVariants.{Reading as A-reading, Watermark}
+use Rattle.command.specs.declared.Command.TheVariants.{Reading as AReading, Watermark}
 use Rattle.rows.specs.Limits.{count_limit, sum_limit}
 use Rattle.guarantees.specs.AnyTime.{reference_now, row_now}
 use Rattle.guarantees.specs.Calls.{Call}
 
 -- The most that a command takes in.
 abbrev pub amount_in : Command → ℕ
-amount_in (A-reading e) = e.amount
+amount_in (AReading e) = e.amount
 amount_in (Watermark m) = 0
 
 -- Totals by which no number in the row can be over its limit.

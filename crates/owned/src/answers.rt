@@ -13,8 +13,8 @@ const HEAD: usize = 2;
 
 // The first n rows of a table.
 pub fn rows_of<R: Row>(heap: Global, table: &[u64], n: usize) -> Result<Vec<R>, AllocError>
-    requires { n * width ≤ length table.now }
-    ensures { IfOk result (λ v. v.items ≡ rows_in width R.Row.made n table.now) }
+    requires { n * R.width ≤ length table.now }
+    ensures { IfOk result (λ v. v.items ≡ rows_in R.width R.made n table.now) }
 {
     let mut rows = Vec::new(heap);
     for i in 0..n {

@@ -26,7 +26,7 @@ use Rattle.rows.proofs.Overs.{mapped_none}
 use Rattle.ledger.specs.Fits.{Fits, FitsIn}
 use Rattle.live.specs.Tables.{counts, open_only, sums}
 use Rattle.live.specs.Walk.{left_over, taken_in}
-use Rattle.live.proofs.Parts.{length_merged, length-parts}
+use Rattle.live.proofs.Parts.{length_merged, length_parts}
 use Rattle.changes.specs.Changed.{newly_closed}
 use Rattle.changes.proofs.Counts.{merging_fewer}
 use Rattle.changes.proofs.Differences.{only_newly_closed}
@@ -138,7 +138,7 @@ module _ (h : Header) (s : Store) (w : Within h s) where
       record {
         counts = w.counts;
         draftable = (v_room, r_room, omega (arith, counts_fit), omega (arith, sums_fit));
-        visits = omega (arith, length_merged t (single e) vs, length-parts t (single e) vs, w.visits);
+        visits = omega (arith, length_merged t (single e) vs, length_parts t (single e) vs, w.visits);
         readings = omega (arith, length_inserted_reading t e s.seen, w.readings);
         lines = omega (arith, few);
         fits = fits_lines _ _ s.ledger (omega (arith, few)) (omega (arith, added_sum, merged_sum, sums_fit)) w.ledger;

@@ -13,14 +13,14 @@ use Rattle.model.specs.Store.{merge_in}
 use Rattle.model.proofs.Common.{split}
 use Rattle.rows.specs.Visits.{visit_cells, visit_laws, visit_made, visit_width}
 use Rattle.rows.specs.Readings.{reading_made, reading_width}
-use Rattle.rows.proofs.Holding.{holding-again}
+use Rattle.rows.proofs.Holding.{holding_again}
 use Rattle.rows.proofs.Splits.{length_rows}
 use Rattle.live.specs.declared.merging.Placed.{Placed}
-use Rattle.live.specs.Tables.{visits-held, visits_in}
-use Rattle.live.specs.Walk.{became, left_over, place_of, Placed-of, taken_in}
+use Rattle.live.specs.Tables.{visits_held, visits_in}
+use Rattle.live.specs.Walk.{became, left_over, place_of, placed_of, taken_in}
 use Rattle.live.proofs.Held.{held_rows}
-use Rattle.live.proofs.Parts.{length_merged, length-parts, merge-parts, place-within}
-use Rattle.seen.specs.Table.{readings-held, readings_in}
+use Rattle.live.proofs.Parts.{length_merged, length_parts, merge_parts, place_within}
+use Rattle.seen.specs.Table.{readings_held, readings_in}
 use Rattle.changes.specs.Changed.{compared, merging}
 use Rattle.changes.proofs.Merging.{by_comparing}
 use Rattle.store.specs.declared.header.Header.{Header}
@@ -43,9 +43,9 @@ module _ (h : Header) (v : Visit) (p q : Parts) (placed : Placed) (vs : List Vis
 
   pub rows_many : length rows ≡ h.visits
   rows_many =
-      length-append (left_over h.terms v vs) (taken_in h.terms v vs) ∙ length-parts h.terms v vs ∙ ap length is ∙ length_rows visit_width visit_made h.visits p.visits
+      length-append (left_over h.terms v vs) (taken_in h.terms v vs) ∙ length_parts h.terms v vs ∙ ap length is ∙ length_rows visit_width visit_made h.visits p.visits
 
-  module _ (place : placed ≡ Placed-of h.terms v vs) (took : q ≡ with_visits (visits-held h.visits rows p.visits) p) where
+  module _ (place : placed ≡ placed_of h.terms v vs) (took : q ≡ with_visits (visits_held h.visits rows p.visits) p) where
     pub rows_absorbed : visits_in h.visits q.visits ≡ rows
     rows_absorbed = held_rows visit_laws h.visits h.visits rows p.visits q.visits rows_many (ap (λ (r : Parts). r.visits) took)
 
@@ -53,7 +53,7 @@ module _ (h : Header) (v : Visit) (p q : Parts) (placed : Placed) (vs : List Vis
     others_few = omega (arith, ap (λ (r : Placed). r.others) place, length-append (left_over h.terms v vs) (taken_in h.terms v vs), rows_many)
 
     pub place_fits : placed.at ≤ placed.others
-    place_fits = omega (arith, ap (λ (r : Placed). r.others) place, ap (λ (r : Placed). r.at) place, place-within h.terms v vs)
+    place_fits = omega (arith, ap (λ (r : Placed). r.others) place, ap (λ (r : Placed). r.at) place, place_within h.terms v vs)
 
     pub changes_found : compared h.terms h.watermark placed (visits_in h.visits q.visits) ≡ merging h.terms h.watermark v vs
     changes_found = by_comparing h.terms h.watermark v vs placed (visits_in h.visits q.visits) place rows_absorbed
@@ -68,21 +68,21 @@ module _ (h : Header) (v : Visit) (p q : Parts) (placed : Placed) (vs : List Vis
         ap (λ l. insert (take placed.others l) placed.at placed.visit) rows_absorbed
         ∙ ap (λ (r : Placed). insert (take r.others rows) r.at r.visit) place
         ∙ ap (λ l. insert l (place_of t v vs) (became t v vs)) (take_at (left_over t v vs) (taken_in t v vs) (length (left_over t v vs)) refl)
-        ∙ sym (merge-parts t v vs)
+        ∙ sym (merge_parts t v vs)
 
     pub merged_parts : (r : Parts)
-        → r ≡ with_visits (visits-held (max h.visits (placed.others + 1)) (insert (take placed.others (visits_in h.visits q.visits)) placed.at placed.visit) q.visits) q
-        → r ≡ with_visits (visits-held (max h.visits (length (merge_in h.terms v vs))) (merge_in h.terms v vs) p.visits) p
+        → r ≡ with_visits (visits_held (max h.visits (placed.others + 1)) (insert (take placed.others (visits_in h.visits q.visits)) placed.at placed.visit) q.visits) q
+        → r ≡ with_visits (visits_held (max h.visits (length (merge_in h.terms v vs))) (merge_in h.terms v vs) p.visits) p
     merged_parts r put =
         let n = h.visits in
         let ms = merge_in h.terms v vs in
         let k = max n (length ms) in
         let top : max n k ≡ k = omega arith in
-        put ∙ ap (λ l. with_visits (visits-held (max n (placed.others + 1)) l q.visits) q) merged_rows
-        ∙ ap (λ m. with_visits (visits-held (max n m) ms q.visits) q) merged_count
-        ∙ ap (λ (s : Parts). with_visits (visits-held k ms s.visits) s) took
-        ∙ ap (λ l. with_visits l p) (holding-again visit_laws n k rows ms p.visits (omega (arith, rows_many)) (omega (arith, rows_many)) (omega arith))
-        ∙ ap (λ m. with_visits (visits-held m ms p.visits) p) top
+        put ∙ ap (λ l. with_visits (visits_held (max n (placed.others + 1)) l q.visits) q) merged_rows
+        ∙ ap (λ m. with_visits (visits_held (max n m) ms q.visits) q) merged_count
+        ∙ ap (λ (s : Parts). with_visits (visits_held k ms s.visits) s) took
+        ∙ ap (λ l. with_visits l p) (holding_again visit_laws n k rows ms p.visits (omega (arith, rows_many)) (omega (arith, rows_many)) (omega arith))
+        ∙ ap (λ m. with_visits (visits_held m ms p.visits) p) top
 
 -- The header with other counts of visits and readings.
 abbrev pub header_with : Header → ℕ → ℕ → Header
@@ -90,15 +90,15 @@ header_with h n k = record { terms = h.terms; watermark = h.watermark; visits = 
 
 -- The reading among the kept ones.
 pub drafted_reading : (h : Header) (e : Reading) (p q r : Parts)
-    → q ≡ with_visits (visits-held (max h.visits (length (merge_in h.terms (single e) (store_of h p).live))) (merge_in h.terms (single e) (store_of h p).live) p.visits) p
-    → r ≡ with_readings (readings-held (h.readings + 1) (insert_reading h.terms e (readings_in h.readings q.readings)) q.readings) q
+    → q ≡ with_visits (visits_held (max h.visits (length (merge_in h.terms (single e) (store_of h p).live))) (merge_in h.terms (single e) (store_of h p).live) p.visits) p
+    → r ≡ with_readings (readings_held (h.readings + 1) (insert_reading h.terms e (readings_in h.readings q.readings)) q.readings) q
     → r ≡ drafted_parts h (draft_of h.terms (store_of h p) (A-reading e)) p
 drafted_reading h e p q r merged put =
     let es = insert_reading h.terms e (readings_in h.readings p.readings) in
     let many : h.readings + 1 ≡ max h.readings (length es) =
     omega (arith, length_inserted_reading h.terms e (readings_in h.readings p.readings), length_rows reading_width reading_made h.readings p.readings) in
-    put ∙ ap (λ (s : Parts). with_readings (readings-held (h.readings + 1) (insert_reading h.terms e (readings_in h.readings s.readings)) s.readings) s) merged
-    ∙ ap (λ k. with_readings (readings-held k es p.readings) (with_visits (visits-held (max h.visits (length (merge_in h.terms (single e) (store_of h p).live))) (merge_in h.terms (single e) (store_of h p).live) p.visits) p)) many
+    put ∙ ap (λ (s : Parts). with_readings (readings_held (h.readings + 1) (insert_reading h.terms e (readings_in h.readings s.readings)) s.readings) s) merged
+    ∙ ap (λ k. with_readings (readings_held k es p.readings) (with_visits (visits_held (max h.visits (length (merge_in h.terms (single e) (store_of h p).live))) (merge_in h.terms (single e) (store_of h p).live) p.visits) p)) many
 
 pub drafted_counts : (h : Header) (e : Reading) (p : Parts) (n : ℕ) → n ≡ length (merge_in h.terms (single e) (store_of h p).live)
     → header_with h n (h.readings + 1) ≡ drafted_header h (draft_of h.terms (store_of h p) (A-reading e))

@@ -13,7 +13,7 @@ use Rattle.rows.specs.Readings.{reading_laws, reading_made, reading_width}
 use Rattle.rows.specs.Rows.{Laws, cells_of, holding, rows_in}
 use Rattle.rows.specs.Visits.{visit_cells, visit_laws, visit_made, visit_width}
 use Rattle.rows.proofs.Copying.{length_cells}
-use Rattle.rows.proofs.Holding.{holding-again, holding-rows}
+use Rattle.rows.proofs.Holding.{holding_again, holding_rows}
 use Rattle.rows.proofs.Splits.{rows_of_cells}
 use Rattle.changes.specs.Out.{change_row, overlay}
 use Rattle.changes.proofs.Counts.{length_change_row}
@@ -51,8 +51,8 @@ pub filtered_again : {R : Type 0} {w : ℕ} {made : List ℕ → R} {cells : R �
 filtered_again {w = w} {cells = cells} laws f n rs xs few =
     let k = max n (length rs) in
     let top : max k (length rs) ≡ k = omega arith in
-    ap (λ l. holding w cells (length rs) (f l) (holding w cells k rs xs)) (holding-rows laws k rs xs)
-    ∙ holding-again laws k (length rs) rs (f rs) xs (omega arith) (omega arith) few
+    ap (λ l. holding w cells (length rs) (f l) (holding w cells k rs xs)) (holding_rows laws k rs xs)
+    ∙ holding_again laws k (length rs) rs (f rs) xs (omega arith) (omega arith) few
     ∙ ap (λ m. holding w cells m (f rs) xs) top
 
 pub ends : (h : Header) (d : Draft) (p : Parts) → finished_parts (drafted_header h d) (gone_of h.terms (store_of h p) d) (new_of h.terms (store_of h p) d) (drafted_parts h d p)
@@ -61,8 +61,8 @@ ends h d p =
     let t = h.terms in
     let m = d.watermark in
     let s = finish t (store_of h p) d in
-    let visits = ap (λ l. length (live_only t m l)) (holding-rows visit_laws (max h.visits (length d.live)) d.live p.visits) in
-    let readings = ap (λ l. length (kept_only t m l)) (holding-rows reading_laws (max h.readings (length d.seen)) d.seen p.readings) in
+    let visits = ap (λ l. length (live_only t m l)) (holding_rows visit_laws (max h.visits (length d.live)) d.live p.visits) in
+    let readings = ap (λ l. length (kept_only t m l)) (holding_rows reading_laws (max h.readings (length d.seen)) d.seen p.readings) in
     same_parts _ _
     (ap (λ k. header_cells (header_by (drafted_header h d) k (length (kept_only t m (rows_in reading_width reading_made (length d.seen) (drafted_parts h d p).readings))) (length s.ledger))) visits ∙ ap (λ k. header_cells (header_by (drafted_header h d) (length s.live) k (length s.ledger))) readings)
     (filtered_again visit_laws (live_only t m) h.visits d.live p.visits (kept_shorter (live t m) d.live))

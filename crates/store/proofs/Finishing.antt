@@ -7,9 +7,9 @@ use Rattle.rows.specs.Readings.{reading_laws, reading_made, reading_width}
 use Rattle.rows.specs.Visits.{visit_laws, visit_made, visit_width}
 use Rattle.rows.proofs.Splits.{length_rows}
 use Rattle.ledger.specs.Table.{lines_held, lines_in}
-use Rattle.live.specs.Tables.{visits-held, visits_in}
-use Rattle.live.proofs.Held.{holding-itself}
-use Rattle.seen.specs.Table.{readings-held, readings_in}
+use Rattle.live.specs.Tables.{visits_held, visits_in}
+use Rattle.live.proofs.Held.{holding_itself}
+use Rattle.seen.specs.Table.{readings_held, readings_in}
 use Rattle.store.specs.declared.header.Header.{Header}
 use Rattle.store.specs.Contents.{store_of}
 use Rattle.store.specs.Header.{header_cells}
@@ -27,8 +27,8 @@ drafted_watermark h m p visits readings =
     let es = readings_in h.readings p.readings in
     let v : h.visits ≡ max h.visits (length vs) = omega (arith, length_rows visit_width visit_made h.visits p.visits) in
     let r : h.readings ≡ max h.readings (length es) = omega (arith, length_rows reading_width reading_made h.readings p.readings) in
-    ap (λ l. with_visits l p) (holding-itself visit_laws h.visits p.visits visits ∙ ap (λ k. visits-held k vs p.visits) v)
-    ∙ ap (λ l. with_readings l (with_visits (visits-held (max h.visits (length vs)) vs p.visits) p)) (holding-itself reading_laws h.readings p.readings readings ∙ ap (λ k. readings-held k es p.readings) r)
+    ap (λ l. with_visits l p) (holding_itself visit_laws h.visits p.visits visits ∙ ap (λ k. visits_held k vs p.visits) v)
+    ∙ ap (λ l. with_readings l (with_visits (visits_held (max h.visits (length vs)) vs p.visits) p)) (holding_itself reading_laws h.readings p.readings readings ∙ ap (λ k. readings_held k es p.readings) r)
 
 pub watermark_header : (h : Header) (m : ℕ) (p : Parts)
     → record { terms = h.terms; watermark = m; visits = h.visits; readings = h.readings; lines = h.lines } ≡ drafted_header h (draft_of h.terms (store_of h p) (Watermark m))
@@ -41,10 +41,10 @@ module _ (h : Header) (gone new : List Visit) (p q r s u : Parts) (v e l : ℕ) 
   lines_after x = lines_held (max h.lines l) (posted h.terms gone new (lines_in h.lines x.lines)) x.lines
 
   abbrev visits_after : Parts → List ℕ
-  visits_after x = visits-held h.visits (live_only h.terms h.watermark (visits_in h.visits x.visits)) x.visits
+  visits_after x = visits_held h.visits (live_only h.terms h.watermark (visits_in h.visits x.visits)) x.visits
 
   abbrev readings_after : Parts → List ℕ
-  readings_after x = readings-held h.readings (kept_only h.terms h.watermark (readings_in h.readings x.readings)) x.readings
+  readings_after x = readings_held h.readings (kept_only h.terms h.watermark (readings_in h.readings x.readings)) x.readings
 
   pub finished : l ≡ length (posted h.terms gone new (lines_in h.lines p.lines)) → q ≡ with_lines (lines_after p) p
       → v ≡ length (live_only h.terms h.watermark (visits_in h.visits q.visits)) → r ≡ with_visits (visits_after q) q

@@ -11,8 +11,8 @@ use Rattle.model.specs.Sessions.{changes, difference, insert_reading}
 use Rattle.model.specs.Store.{Draft, Store, closed_after, closed_before, kept_only, live_only, merge_in, posted}
 use Rattle.ledger.specs.Fits.{Fits}
 use Rattle.ledger.specs.Table.{lines_held, lines_in}
-use Rattle.live.specs.Tables.{counts, sums, visits-held, visits_in}
-use Rattle.seen.specs.Table.{readings-held, readings_in}
+use Rattle.live.specs.Tables.{counts, sums, visits_held, visits_in}
+use Rattle.seen.specs.Table.{readings_held, readings_in}
 use Rattle.store.specs.declared.header.Header.{Header}
 use Rattle.store.specs.Header.{Counted, header_cells}
 use Rattle.store.specs.Layout.{lines_room, readings_room, visits_room}
@@ -57,8 +57,8 @@ abbrev pub drafted_parts : Header → Draft → Parts → Parts
 drafted_parts h d p =
     record {
       header = p.header;
-      visits = visits-held (max h.visits (length d.live)) d.live p.visits;
-      readings = readings-held (max h.readings (length d.seen)) d.seen p.readings;
+      visits = visits_held (max h.visits (length d.live)) d.live p.visits;
+      readings = readings_held (max h.readings (length d.seen)) d.seen p.readings;
       lines = p.lines;
       rest = p.rest;
     }
@@ -82,8 +82,8 @@ abbrev pub finished_parts : Header → List Visit → List Visit → Parts → P
 finished_parts h gone new p =
     record {
       header = header_cells (finished_header h gone new p);
-      visits = visits-held h.visits (live_only h.terms h.watermark (visits_in h.visits p.visits)) p.visits;
-      readings = readings-held h.readings (kept_only h.terms h.watermark (readings_in h.readings p.readings)) p.readings;
+      visits = visits_held h.visits (live_only h.terms h.watermark (visits_in h.visits p.visits)) p.visits;
+      readings = readings_held h.readings (kept_only h.terms h.watermark (readings_in h.readings p.readings)) p.readings;
       lines = finished_lines h gone new p;
       rest = p.rest;
     }

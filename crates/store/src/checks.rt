@@ -38,8 +38,8 @@ pub struct Ready {
 fn table_fault<R: Row>(store: &[u64], at: usize, end: usize, n: usize) -> Option<Refusal>
     requires order { at ≤ end }
     requires within { end ≤ length store.now }
-    requires room { n * width ≤ end - at }
-    ensures { result ≡ option_map BadStore (first_over at (repeat n limits) (between at end store.now)) }
+    requires room { n * R.width ≤ end - at }
+    ensures { result ≡ option_map BadStore (first_over at (repeat n R.limits) (between at end store.now)) }
 {
     match first_over::<R>(&store[at..end], n) {
         Some(i) => Some(Refusal::BadStore((at + i) as u64)),

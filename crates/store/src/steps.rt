@@ -16,7 +16,7 @@ ghost use Rattle.store.specs.Steps.{changes_of, draft_of, drafted_header, drafte
 use crate::header::Header;
 use crate::layout::{READINGS_AT, VISITS_AT};
 use crate::tables::{
-    absorb, expire_readings, expire_visits, insert_reading, place, post, put_header,
+    set_aside, expire_readings, expire_visits, insert_reading, place, post, put_header,
 };
 use changes::reading::by_reading;
 use changes::watermark::by_watermark;
@@ -49,7 +49,7 @@ pub fn draft_reading(
     ensures out { out.new ≡ overlay (outcome_row (changes_of header.terms (store_of header (parts store.old)) (draft_of header.terms (store_of header (parts store.old)) (A-reading reading)))) out.old }
 {
     let n = header.visits;
-    let placed = absorb(store, n, reading.single(), header.terms);
+    let placed = set_aside(store, n, reading.single(), header.terms);
     let visits = &store[VISITS_AT..READINGS_AT];
     let changed = by_reading(visits, n, placed, header.terms, header.watermark, out);
     let count = place(store, n, placed);

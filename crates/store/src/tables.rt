@@ -3,11 +3,11 @@ ghost use Rattle.std.specs.Prelude.{◌≡◌, ◌+◌, ◌*◌, ◌^◌, ◌<�
 ghost use Rattle.ledger.specs.Fits.{Fits, sums as added-sums};
 ghost use Rattle.ledger.specs.Out.{gone_in, new_count, new_in, out_end, out_head};
 ghost use Rattle.ledger.specs.Table.{lines_held, lines_in};
-ghost use Rattle.live.specs.Tables.{counts, sums, visits-held, visits_in};
-ghost use Rattle.live.specs.Walk.{left_over, Placed-of, taken_in};
+ghost use Rattle.live.specs.Tables.{counts, sums, visits_held, visits_in};
+ghost use Rattle.live.specs.Walk.{left_over, placed_of, taken_in};
 ghost use Rattle.model.specs.Sessions.{insert_reading};
 ghost use Rattle.model.specs.Store.{kept_only, live_only, posted};
-ghost use Rattle.seen.specs.Table.{readings-held, readings_in};
+ghost use Rattle.seen.specs.Table.{readings_held, readings_in};
 ghost use Rattle.std.specs.List.{insert};
 ghost use Rattle.store.specs.Header.{header_cells};
 ghost use Rattle.store.specs.Layout.{lines_room, readings_room, store_size, visits_room};
@@ -19,15 +19,15 @@ use live::merging::Placed;
 use rows::row::Row;
 use visit::{Reading, Terms, Visit};
 
-pub fn absorb(store: &mut [u64], n: usize, visit: Visit, terms: Terms) -> Placed
+pub fn set_aside(store: &mut [u64], n: usize, visit: Visit, terms: Terms) -> Placed
     requires size { store_size ≤ length store.old }
     requires room { n ≤ visits_room }
     requires count { counts (visits_in n (parts store.old).visits) + visit.count < 2 ^ 64 }
     requires sum { sums (visits_in n (parts store.old).visits) + visit.sum < 2 ^ 64 }
-    ensures placed { result ≡ Placed-of terms visit (visits_in n (parts store.old).visits) }
-    ensures parts { parts store.new ≡ with_visits (visits-held n (left_over terms visit (visits_in n (parts store.old).visits) ++ taken_in terms visit (visits_in n (parts store.old).visits)) (parts store.old).visits) (parts store.old) }
+    ensures placed { result ≡ placed_of terms visit (visits_in n (parts store.old).visits) }
+    ensures parts { parts store.new ≡ with_visits (visits_held n (left_over terms visit (visits_in n (parts store.old).visits) ++ taken_in terms visit (visits_in n (parts store.old).visits)) (parts store.old).visits) (parts store.old) }
 {
-    live::merging::absorb(&mut store[VISITS_AT..READINGS_AT], n, visit, terms)
+    live::merging::set_aside(&mut store[VISITS_AT..READINGS_AT], n, visit, terms)
 }
 
 pub fn place(store: &mut [u64], n: usize, placed: Placed) -> usize
@@ -36,7 +36,7 @@ pub fn place(store: &mut [u64], n: usize, placed: Placed) -> usize
     requires few { placed.others ≤ n }
     requires room { n < visits_room }
     ensures many { result ≡ placed.others + 1 }
-    ensures parts { parts store.new ≡ with_visits (visits-held (max n (placed.others + 1)) (insert (take placed.others (visits_in n (parts store.old).visits)) placed.at placed.visit) (parts store.old).visits) (parts store.old) }
+    ensures parts { parts store.new ≡ with_visits (visits_held (max n (placed.others + 1)) (insert (take placed.others (visits_in n (parts store.old).visits)) placed.at placed.visit) (parts store.old).visits) (parts store.old) }
 {
     live::merging::place(&mut store[VISITS_AT..READINGS_AT], n, placed)
 }
@@ -44,7 +44,7 @@ pub fn place(store: &mut [u64], n: usize, placed: Placed) -> usize
 pub fn insert_reading(store: &mut [u64], n: usize, reading: Reading, terms: Terms)
     requires size { store_size ≤ length store.old }
     requires room { n < readings_room }
-    ensures { parts store.new ≡ with_readings (readings-held (n + 1) (insert_reading terms reading (readings_in n (parts store.old).readings)) (parts store.old).readings) (parts store.old) }
+    ensures { parts store.new ≡ with_readings (readings_held (n + 1) (insert_reading terms reading (readings_in n (parts store.old).readings)) (parts store.old).readings) (parts store.old) }
 {
     seen::insert(&mut store[READINGS_AT..LINES_AT], n, reading, terms);
 }
@@ -65,7 +65,7 @@ pub fn expire_visits(store: &mut [u64], n: usize, terms: Terms, watermark: u64) 
     requires size { store_size ≤ length store.old }
     requires room { n ≤ visits_room }
     ensures many { result ≡ length (live_only terms watermark (visits_in n (parts store.old).visits)) }
-    ensures parts { parts store.new ≡ with_visits (visits-held n (live_only terms watermark (visits_in n (parts store.old).visits)) (parts store.old).visits) (parts store.old) }
+    ensures parts { parts store.new ≡ with_visits (visits_held n (live_only terms watermark (visits_in n (parts store.old).visits)) (parts store.old).visits) (parts store.old) }
 {
     live::expiry::expire(&mut store[VISITS_AT..READINGS_AT], n, terms, watermark)
 }
@@ -74,7 +74,7 @@ pub fn expire_readings(store: &mut [u64], n: usize, terms: Terms, watermark: u64
     requires size { store_size ≤ length store.old }
     requires room { n ≤ readings_room }
     ensures many { result ≡ length (kept_only terms watermark (readings_in n (parts store.old).readings)) }
-    ensures parts { parts store.new ≡ with_readings (readings-held n (kept_only terms watermark (readings_in n (parts store.old).readings)) (parts store.old).readings) (parts store.old) }
+    ensures parts { parts store.new ≡ with_readings (readings_held n (kept_only terms watermark (readings_in n (parts store.old).readings)) (parts store.old).readings) (parts store.old) }
 {
     seen::expire(&mut store[READINGS_AT..LINES_AT], n, terms, watermark)
 }

@@ -8,12 +8,12 @@ use Rattle.owned.specs.Rows.{outcome_to}
 use Rattle.owned.proofs.Told.{done_outcome, refused_outcome}
 use Rattle.owned.proofs.answer.Goals as goal
 
-pub changes-of-requires : goal.changes-of-requires
-changes-of-requires c =
+pub changes_of-requires : goal.changes_of-requires
+changes_of-requires c =
     let xs = c.args.row.now in
     let out = c.args.out.now in
-    let o = outcome_in xs (verdict c.args.capacity xs c.command-cells-cells.result (length out)) in
-    let k = done_outcome o c.in-Done.field-0 out c.apply-known.new.out c.in-Done.ensures.reply c.in-Done.ensures.out in
+    let o = outcome_in xs (verdict c.args.capacity xs c.command_cells-cells.result (length out)) in
+    let k = done_outcome o c.in-Done.field-0 out c.apply_known.new.out c.in-Done.ensures.reply c.in-Done.ensures.out in
     record { counts = k.counts; within = k.within }
 
 pub returns-in-Refused : goal.returns-in-Refused
@@ -21,33 +21,33 @@ returns-in-Refused c =
     let cap = c.args.capacity in
     let xs = c.args.row.now in
     let n = length c.args.out.now in
-    let o = outcome_in xs (verdict cap xs c.command-cells-cells.result n) in
+    let o = outcome_in xs (verdict cap xs c.command_cells-cells.result n) in
     record {
-      answer = refused_outcome o c.in-Refused.refusal c.in-Refused.ensures.reply ∙ ap (λ cs. outcome_in xs (verdict cap xs cs n)) c.command-cells-cells.ensures;
-      row = c.in-Refused.ensures.store ∙ ap (λ cs. row_by xs (verdict cap xs cs n)) c.command-cells-cells.ensures;
+      answer = refused_outcome o c.in-Refused.refusal c.in-Refused.ensures.reply ∙ ap (λ cs. outcome_in xs (verdict cap xs cs n)) c.command_cells-cells.ensures;
+      row = c.in-Refused.ensures.store ∙ ap (λ cs. row_by xs (verdict cap xs cs n)) c.command_cells-cells.ensures;
     }
 
-pub returns-in-err-changes-of : goal.returns-in-err-changes-of
-returns-in-err-changes-of c =
+pub returns-in_err-changes_of-in-Done : goal.returns-in_err-changes_of-in-Done
+returns-in_err-changes_of-in-Done c =
     let cap = c.args.capacity in
     let xs = c.args.row.now in
     let n = length c.args.out.now in
     record {
-      answer = IfOk-from_err c.from-residual.result _ c.from-residual.ensures.0;
-      row = c.in-Done.ensures.store ∙ ap (λ cs. row_by xs (verdict cap xs cs n)) c.command-cells-cells.ensures;
+      answer = IfOk-from_err c.from_residual.result _ c.from_residual.ensures.0;
+      row = c.in-Done.ensures.store ∙ ap (λ cs. row_by xs (verdict cap xs cs n)) c.command_cells-cells.ensures;
     }
 
-pub returns-in-ok-changes-of : goal.returns-in-ok-changes-of
-returns-in-ok-changes-of c =
+pub returns-in_ok-changes_of-in-Done : goal.returns-in_ok-changes_of-in-Done
+returns-in_ok-changes_of-in-Done c =
     let cap = c.args.capacity in
     let xs = c.args.row.now in
     let out = c.args.out.now in
     let n = length out in
-    let row = c.apply-known.new.out in
-    let o = outcome_in xs (verdict cap xs c.command-cells-cells.result n) in
+    let row = c.apply_known.new.out in
+    let o = outcome_in xs (verdict cap xs c.command_cells-cells.result n) in
     let k = done_outcome o c.in-Done.field-0 out row c.in-Done.ensures.reply c.in-Done.ensures.out in
     record {
-      answer = ap (λ l. changed l (vec_items c.in-ok-changes-of.field-0.added)) c.in-ok-changes-of.ensures.retracted ∙ ap (changed (gone_in row)) c.in-ok-changes-of.ensures.added ∙ k.outcome
-          ∙ ap (λ cs. outcome_in xs (verdict cap xs cs n)) c.command-cells-cells.ensures;
-      row = c.in-Done.ensures.store ∙ ap (λ cs. row_by xs (verdict cap xs cs n)) c.command-cells-cells.ensures;
+      answer = ap (λ l. changed l (vec_items c.in_ok-changes_of-in-Done.field-0.added)) c.in_ok-changes_of-in-Done.ensures.retracted ∙ ap (changed (gone_in row)) c.in_ok-changes_of-in-Done.ensures.added ∙ k.outcome
+          ∙ ap (λ cs. outcome_in xs (verdict cap xs cs n)) c.command_cells-cells.ensures;
+      row = c.in-Done.ensures.store ∙ ap (λ cs. row_by xs (verdict cap xs cs n)) c.command_cells-cells.ensures;
     }

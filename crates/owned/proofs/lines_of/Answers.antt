@@ -13,6 +13,6 @@ returns c =
     let xs = c.args.row.now in
     let n = c.min.result in
     let count = c.min.ensures ∙ ap (λ (h : Header). min h.lines lines_room) c.read-header.ensures in
-    IfOk-weaker c.rows-of.result (λ v. vec_items v ≡ lines_in n (parts xs).lines) _
-    (λ v e. e ∙ ap (λ k. lines_in k (parts xs).lines) count ∙ sym (ap (λ b. cond b [] (lines_in (min (header_in xs).lines lines_room) (parts xs).lines)) (le-ltb _ _ c.if-row-lt-STORE-SIZE.false)))
-    c.rows-of.ensures
+    IfOk-weaker c.rows_of.result (λ v. vec_items v ≡ lines_in n (parts xs).lines) _
+    (λ v e. e ∙ ap (λ k. lines_in k (parts xs).lines) count ∙ sym (ap (λ b. cond b [] (lines_in (min (header_in xs).lines lines_room) (parts xs).lines)) (le-ltb _ _ c.if-row-lt-STORE_SIZE.false)))
+    c.rows_of.ensures

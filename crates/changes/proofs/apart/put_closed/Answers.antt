@@ -26,8 +26,8 @@ put-requires c =
     let room = passing_room visit_laws p vs c.loop-visit.count i (get_or vs i no_visit) here (read vs i here) c.if-closed.ensures c.loop-visit.invariant.0 in
     omega (arith, room, kept_shorter p vs)
 
-pub overflow-add-count : goal.overflow-add-count
-overflow-add-count c =
+pub overflow_add-count : goal.overflow_add-count
+overflow_add-count c =
     let passed = take c.loop-visit.visit-index c.args.visits.now in
     omega (arith, c.loop-visit.invariant.0, kept_shorter (closed c.args.terms c.args.watermark) passed, length-take c.loop-visit.visit-index c.args.visits.now)
 

@@ -17,7 +17,7 @@ returns-then-wanted c =
     ∙ ap (λ n. take (k * visit_width) (drop head_width xs) ++ (visit_cells v ++ drop n (drop head_width xs))) next in
     record {
       many = ap (λ b. k + length (cond b (v ∷ []) [])) is;
-      out = c.put-counts.ensures ∙ ap (λ l. k ∷ 1 ∷ l) one ∙ ap (λ b. with_added k (cond b (v ∷ []) []) xs) is;
+      out = c.put_counts.ensures ∙ ap (λ l. k ∷ 1 ∷ l) one ∙ ap (λ b. with_added k (cond b (v ∷ []) []) xs) is;
     }
 
 pub returns-else-wanted : goal.returns-else-wanted
@@ -29,5 +29,5 @@ returns-else-wanted c =
     let none : k ∷ 0 ∷ drop head_width xs ≡ with_added k [] xs = rw (add-zero k) (ap (λ l. k ∷ 0 ∷ l) (sym (take-append-drop (k * visit_width) (drop head_width xs)))) in
     record {
       many = sym (add-zero k) ∙ ap (λ b. k + length (cond b (v ∷ []) [])) is;
-      out = c.put-counts-else-wanted.ensures ∙ none ∙ ap (λ b. with_added k (cond b (v ∷ []) []) xs) is;
+      out = c.put_counts-else-wanted.ensures ∙ none ∙ ap (λ b. with_added k (cond b (v ∷ []) []) xs) is;
     }

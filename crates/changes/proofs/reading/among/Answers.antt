@@ -10,18 +10,18 @@ pub returns-then-same : goal.returns-then-same
 returns-then-same c =
     let vs = visits_in c.args.n c.args.table.now in
     let test = same_visit c.args.terms c.args.visit in
-    let row = c.row-at.result in
+    let row = c.row_at.result in
     let inside : c.loop-i.i < length vs = rw (length_rows visit_width visit_made c.args.n c.args.table.now) c.loop-i-test.true in
-    let here : test (get_or vs c.loop-i.i row) ≡ true = ap test (sym (c.row-at.ensures c.args.n row c.loop-i-test.true)) ∙ sym c.if-same.ensures in
+    let here : test (get_or vs c.loop-i.i row) ≡ true = ap test (sym (c.row_at.ensures c.args.n row c.loop-i-test.true)) ∙ sym c.if-same.ensures in
     sym (some_here test vs c.loop-i.i row inside here) ∙ c.loop-i.invariant
 
 pub loop-i-preserved : goal.loop-i-preserved
 loop-i-preserved c =
     let vs = visits_in c.args.n c.args.table.now in
     let test = same_visit c.args.terms c.args.visit in
-    let row = c.row-at.result in
+    let row = c.row_at.result in
     let inside : c.loop-i.i < length vs = rw (length_rows visit_width visit_made c.args.n c.args.table.now) c.loop-i-test.true in
-    let past : test (get_or vs c.loop-i.i row) ≡ false = ap test (sym (c.row-at.ensures c.args.n row c.loop-i-test.true)) ∙ sym c.if-same.ensures in
+    let past : test (get_or vs c.loop-i.i row) ≡ false = ap test (sym (c.row_at.ensures c.args.n row c.loop-i-test.true)) ∙ sym c.if-same.ensures in
     some_past test vs c.loop-i.i row inside past ∙ c.loop-i.invariant
 
 pub returns : goal.returns

@@ -24,9 +24,9 @@ module _ (t : Terms) (m : ℕ) (p : Placed) (w n : ℕ) (xs : List ℕ) (is : w 
   found =
       rw (part_is w p.others xs is, sym (drop_rows visit_width visit_made p.others n xs place), sym (take_rows visit_width visit_made p.others n xs place))
 
-pub copy-passing-requires : goal.copy-passing-requires
+pub copy_passing-requires : goal.copy_passing-requires
 unfolding part
-copy-passing-requires c =
+copy_passing-requires c =
     let xs = c.args.table.now in
     let k = c.args.placed.others in
     let rows = visits_in (c.args.n - k) (part c.width.result k xs) in
@@ -41,6 +41,6 @@ unfolding part
 returns c =
     let all = found c.args.terms c.args.watermark c.args.placed c.width.result c.args.n c.args.table.now c.width.ensures c.requires.place in
     record {
-      many = c.copy-passing.ensures.many ∙ ap length all;
-      stored = c.copy-passing.ensures.stored ∙ ap (λ l. cells_of visit_cells l ++ drop (c.copy-passing.result * visit_width) c.args.target.now) all;
+      many = c.copy_passing.ensures.many ∙ ap length all;
+      stored = c.copy_passing.ensures.stored ∙ ap (λ l. cells_of visit_cells l ++ drop (c.copy_passing.result * visit_width) c.args.target.now) all;
     }

@@ -11,8 +11,8 @@ use Rattle.changes.proofs.Differences.{only_newly_closed}
 use Rattle.changes.proofs.Written.{counted, standing_lent}
 use Rattle.changes.proofs.watermark.by_watermark.Goals as goal
 
-pub copy-passing-added-requires : goal.copy-passing-added-requires
-copy-passing-added-requires c =
+pub copy_passing-added-requires : goal.copy_passing-added-requires
+copy_passing-added-requires c =
     let xs = c.args.out.now in
     let vs = visits_in c.args.n c.args.table.now in
     let fewer = kept_shorter (newly_closed c.args.terms c.args.from c.args.to) vs in
@@ -27,10 +27,10 @@ returns c =
     let vs = visits_in c.args.n c.args.table.now in
     let new = filter (newly_closed c.args.terms c.args.from c.args.to) vs in
     let law = sym (only_newly_closed c.args.terms c.args.from c.args.to vs c.requires.order) in
-    let copied = c.copy-passing-added in
+    let copied = c.copy_passing-added in
     let standing = standing_lent new xs copied.new.target copied.result (omega arith) copied.ensures.many copied.ensures.stored in
     record {
       many = copied.ensures.many ∙ sym (zero-add (length new)) ∙ ap outcome_count law;
-      out = counted [] new xs (put_mid head_width (length xs - head_width) xs copied.new.target) c.put-counts.new.out 0 copied.result standing refl copied.ensures.many c.put-counts.ensures
+      out = counted [] new xs (put_mid head_width (length xs - head_width) xs copied.new.target) c.put_counts.new.out 0 copied.result standing refl copied.ensures.many c.put_counts.ensures
           ∙ ap (λ o. overlay (outcome_row o) xs) law;
     }

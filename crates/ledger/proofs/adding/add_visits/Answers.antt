@@ -31,7 +31,7 @@ add-count-requires c =
     let i = c.loop-i.i in
     let xs = c.args.table.now in
     let vs = visits_in k c.args.visits.now in
-    let v = c.row-at-visit.result in
+    let v = c.row_at-visit.result in
     let l = c.line.result in
     let ls = add_visits t (take i vs) (lines_in n xs) in
     let many = length_rows visit_width visit_made k c.args.visits.now in
@@ -41,7 +41,7 @@ add-count-requires c =
     let fits : Fits (k - i) (sums (drop i vs)) ls = fits_visits_added t (take i vs) (k - i) (sums (drop i vs)) (lines_in n xs) (fits_less _ _ _ _ (lines_in n xs) (omega arith) (omega arith) c.requires.fits) in
     let one : l.visits ≡ 1 = ap (λ (m : Line). m.visits) c.line.ensures in
     let its : l.sum ≡ v.sum = ap (λ (m : Line). m.sum) c.line.ensures in
-    let read = ap (λ (u : Visit). u.sum) (c.row-at-visit.ensures k v c.loop-i-test.true) in
+    let read = ap (λ (u : Visit). u.sum) (c.row_at-visit.ensures k v c.loop-i-test.true) in
     record {
       room = omega (arith, c.loop-i.invariant.many, (visits_longer t (take i vs) (lines_in n xs)).1, length_rows line_width line_made n xs);
       fits = subst (Fits l.visits l.sum) (sym (rows_held line_laws c.loop-i.count _ ls xs c.loop-i.table c.loop-i.invariant))
@@ -55,12 +55,12 @@ loop-i-preserved c =
     let xs = c.args.table.now in
     let i = c.loop-i.i in
     let vs = visits_in c.args.k c.args.visits.now in
-    let v = c.row-at-visit.result in
+    let v = c.row_at-visit.result in
     let l = c.line.result in
     let ls = add_visits t (take i vs) (lines_in n xs) in
     let inside : i < length vs = omega (arith, length_rows visit_width visit_made c.args.k c.args.visits.now) in
     let more : add_visits t (take (i + 1) vs) (lines_in n xs) ≡ add_line t l ls =
-    add_one_more t vs i v (lines_in n xs) inside (c.row-at-visit.ensures c.args.k v c.loop-i-test.true) ∙ ap (λ j. add_line t j ls) (sym c.line.ensures) in
+    add_one_more t vs i v (lines_in n xs) inside (c.row_at-visit.ensures c.args.k v c.loop-i-test.true) ∙ ap (λ j. add_line t j ls) (sym c.line.ensures) in
     let longer = (add_longer t l ls).0 in
     held_next line_laws (add_line t l) _ _ (max n c.add-count.result) ls _ xs c.loop-i.table c.add-count.new.table c.loop-i.count c.add-count.result c.loop-i.invariant
     c.add-count.ensures.many c.add-count.ensures.table more (λ was is. (omega arith, omega arith, omega arith, omega arith))

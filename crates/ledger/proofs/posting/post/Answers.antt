@@ -24,15 +24,15 @@ gone_taken t n xs ys out m part e many table =
 new_part : (v : ℕ) (out : List ℕ) → v ≡ visit_width → take (length out - (out_head + gone_count out * v)) (drop (out_head + gone_count out * v) out) ≡ drop (new_at out) out
 new_part v out e = rw e (take_rest out (new_at out))
 
-pub add-visits-requires : goal.add-visits-requires
-add-visits-requires c =
+pub add_visits-requires : goal.add_visits-requires
+add_visits-requires c =
     let t = c.args.terms in
     let n = c.args.n in
     let xs = c.args.table.now in
     let out = c.args.out.now in
-    let m = c.take-visits-rest.result in
-    let ys = c.take-visits-rest.new.table in
-    let taken = gone_taken t n xs ys out m _ refl c.take-visits-rest.ensures.many c.take-visits-rest.ensures.table in
+    let m = c.take_visits-rest.result in
+    let ys = c.take_visits-rest.new.table in
+    let taken = gone_taken t n xs ys out m _ refl c.take_visits-rest.ensures.many c.take_visits-rest.ensures.table in
     let part = new_part c.width.result out c.width.ensures in
     record {
       within = omega (arith, ap length part, length-drop (new_at out) out);
@@ -47,15 +47,15 @@ returns c =
     let n = c.args.n in
     let xs = c.args.table.now in
     let out = c.args.out.now in
-    let m = c.take-visits-rest.result in
-    let ys = c.take-visits-rest.new.table in
-    let r = c.add-visits.result in
+    let m = c.take_visits-rest.result in
+    let ys = c.take_visits-rest.new.table in
+    let r = c.add_visits.result in
     let ls = take_visits t (gone_in out) (lines_in n xs) in
-    let taken = gone_taken t n xs ys out m _ refl c.take-visits-rest.ensures.many c.take-visits-rest.ensures.table in
+    let taken = gone_taken t n xs ys out m _ refl c.take_visits-rest.ensures.many c.take_visits-rest.ensures.table in
     let added = ap (λ ps. add_visits t (visits_in (new_count out) ps) (lines_in m ys)) (new_part c.width.result out c.width.ensures) in
     let few = visits_shorter t (gone_in out) (lines_in n xs) in
     let long = length_rows line_width line_made n xs in
     let longer = (visits_longer t (new_in out) ls).0 in
-    let all = held_next line_laws (add_visits t (new_in out)) n (max m r) (max n r) ls (add_visits t (new_in out) ls) xs ys c.add-visits.new.table m r taken
-    (c.add-visits.ensures.many ∙ ap length added) (c.add-visits.ensures.table ∙ ap (λ l. lines_held (max m r) l ys) added) refl (λ was is. (omega arith, omega arith, omega arith, omega arith)) in
+    let all = held_next line_laws (add_visits t (new_in out)) n (max m r) (max n r) ls (add_visits t (new_in out) ls) xs ys c.add_visits.new.table m r taken
+    (c.add_visits.ensures.many ∙ ap length added) (c.add_visits.ensures.table ∙ ap (λ l. lines_held (max m r) l ys) added) refl (λ was is. (omega arith, omega arith, omega arith, omega arith)) in
     record { many = all.many; table = all.table }

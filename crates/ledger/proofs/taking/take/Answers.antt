@@ -26,14 +26,14 @@ returns-then-found-line c =
     let xs = c.args.table.now in
     let ls = lines_in n xs in
     let at = c.find-at.result in
-    let found = c.row-at-found.result in
+    let found = c.row_at-found.result in
     let here : at < n = c.if-at-n.false in
     let long : length ls ≡ n = length_rows line_width line_made n xs in
     let inside : at < length ls = omega arith in
-    let gone = take_gone c.args.terms c.args.line ls at found inside (c.row-at-found.ensures n found here) c.find-at.ensures c.if-found-line.true in
+    let gone = take_gone c.args.terms c.args.line ls at found inside (c.row_at-found.ensures n found here) c.find-at.ensures c.if-found-line.true in
     record {
       many = omega (arith, ap length gone, length-remove ls at inside);
-      table = c.remove.ensures ∙ ap (λ l. lines_held n l xs) (sym gone);
+      table = c.remove.ensures.held ∙ ap (λ l. lines_held n l xs) (sym gone);
     }
 
 pub returns : goal.returns
@@ -42,11 +42,11 @@ returns c =
     let xs = c.args.table.now in
     let ls = lines_in n xs in
     let at = c.find-at.result in
-    let found = c.row-at-found.result in
+    let found = c.row_at-found.result in
     let here : at < n = c.if-at-n.false in
     let long : length ls ≡ n = length_rows line_width line_made n xs in
     let inside : at < length ls = omega arith in
-    let less = take_less c.args.terms c.args.line ls at found inside (c.row-at-found.ensures n found here) c.find-at.ensures c.if-found-line.false
+    let less = take_less c.args.terms c.args.line ls at found inside (c.row_at-found.ensures n found here) c.find-at.ensures c.if-found-line.false
     ∙ ap (set ls at) (sym c.minus.ensures) in
     record {
       many = sym (ap length less ∙ length-set ls at c.minus.result ∙ long);

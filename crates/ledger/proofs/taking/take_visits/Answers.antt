@@ -28,12 +28,12 @@ loop-i-preserved c =
     let xs = c.args.table.now in
     let i = c.loop-i.i in
     let vs = visits_in c.args.k c.args.visits.now in
-    let v = c.row-at-visit.result in
+    let v = c.row_at-visit.result in
     let l = c.line.result in
     let ls = take_visits t (take i vs) (lines_in n xs) in
     let inside : i < length vs = omega (arith, length_rows visit_width visit_made c.args.k c.args.visits.now) in
     let more : take_visits t (take (i + 1) vs) (lines_in n xs) ≡ take_line t l ls =
-    take_one_more t vs i v (lines_in n xs) inside (c.row-at-visit.ensures c.args.k v c.loop-i-test.true) ∙ ap (λ m. take_line t m ls) (sym c.line.ensures) in
+    take_one_more t vs i v (lines_in n xs) inside (c.row_at-visit.ensures c.args.k v c.loop-i-test.true) ∙ ap (λ m. take_line t m ls) (sym c.line.ensures) in
     let few = visits_shorter t (take i vs) (lines_in n xs) in
     let long = length_rows line_width line_made n xs in
     let fewer = take_shorter t l ls in

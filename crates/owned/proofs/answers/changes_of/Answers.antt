@@ -8,8 +8,8 @@ pub returns : goal.returns
 returns c =
     let xs = c.args.out.now in
     record {
-      retracted = c.in-ok-retracted.ensures ∙ ap (visits_in (gone_count xs)) (take_rest xs out_head);
-      added = c.in-ok-added.ensures
+      retracted = c.in_ok-retracted.ensures ∙ ap (visits_in (gone_count xs)) (take_rest xs out_head);
+      added = c.in_ok-added.ensures
           ∙ ap (λ w. visits_in (new_count xs) (take (length xs - (out_head + gone_count xs * w)) (drop (out_head + gone_count xs * w) xs))) c.width.ensures
           ∙ ap (visits_in (new_count xs)) (take_rest xs (new_at xs));
     }

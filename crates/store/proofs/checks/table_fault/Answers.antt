@@ -7,8 +7,8 @@ use Rattle.rows.proofs.Overs.{over_within}
 use Rattle.store.proofs.Places.{over_from}
 use Rattle.store.proofs.checks.table_fault.Goals as goal
 
-pub overflow-add-result : goal.overflow-add-result
-overflow-add-result g c =
+pub overflow_add-result : goal.overflow_add-result
+overflow_add-result g c =
     let xs = c.args.store.now in
     let part = between c.args.at c.args.end xs in
     omega (arith, over_within 0 (repeat c.args.n g.R.Row.limits) part c.in-Some.i (sym c.in-Some.ensures), length-between xs c.args.at c.args.end c.requires.within)

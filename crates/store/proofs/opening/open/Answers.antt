@@ -11,6 +11,6 @@ pub returns : goal.returns
 returns c =
     let xs = c.args.store.now in
     let t = c.args.terms in
-    let long = ap (λ b. cond b (Some (BadStore (length xs))) None) (le-ltb _ _ c.if-store-lt-STORE-SIZE.false) in
-    let ok = sym (none_found (short_fault xs ∷ terms_fault t ∷ []) (Ok t) (long, (sym c.in-default.ensures, tt))) in
+    let long = ap (λ b. cond b (Some (BadStore (length xs))) None) (le-ltb _ _ c.if-store-lt-STORE_SIZE.false) in
+    let ok = sym (none_found (short_fault xs ∷ terms_fault t ∷ []) (Ok t) (long, (sym c.in_default.ensures, tt))) in
     record { reply = ap open_reply ok; store = c.clear.ensures ∙ ap (open_row xs) ok }

@@ -3,8 +3,8 @@ use Rattle.std.proofs.lemmas.List.Edits.{length-between}
 use Rattle.visit.specs.declared.Visit.{Visit}
 use Rattle.visit.specs.Visits.{single}
 use Rattle.model.specs.Store.{merge_in}
-use Rattle.live.specs.Tables.{visits-held, visits_in}
-use Rattle.live.specs.Walk.{left_over, Placed-of, taken_in}
+use Rattle.live.specs.Tables.{visits_held, visits_in}
+use Rattle.live.specs.Walk.{left_over, placed_of, taken_in}
 use Rattle.changes.specs.Changed.{merging}
 use Rattle.changes.specs.Out.{outcome_count, outcome_row, overlay}
 use Rattle.store.specs.Layout.{readings_at, visits_at}
@@ -12,12 +12,12 @@ use Rattle.store.specs.Parts.{parts, with_visits}
 use Rattle.store.proofs.Drafting.{changes_found, drafted_counts, drafted_reading, merged_count, merged_parts, others_few, place_fits}
 use Rattle.store.proofs.steps.draft_reading.Goals as goal
 
-pub by-reading-changed-requires : goal.by-reading-changed-requires
-by-reading-changed-requires c =
+pub by_reading-changed-requires : goal.by_reading-changed-requires
+by_reading-changed-requires c =
     let p = parts c.args.store.now in
-    let s = c.absorb-placed.new.store in
+    let s = c.set_aside-placed.new.store in
     record {
-      place = others_few c.args.header c.single.result p (parts s) c.absorb-placed.result (visits_in c.args.header.visits p.visits) refl c.absorb-placed.ensures.placed c.absorb-placed.ensures.parts;
+      place = others_few c.args.header c.single.result p (parts s) c.set_aside-placed.result (visits_in c.args.header.visits p.visits) refl c.set_aside-placed.ensures.placed c.set_aside-placed.ensures.parts;
       within = omega (arith, length-between s visits_at readings_at (omega arith));
       room = omega arith;
     }
@@ -25,17 +25,17 @@ by-reading-changed-requires c =
 pub place-count-requires : goal.place-count-requires
 place-count-requires c =
     let p = parts c.args.store.now in
-    let s = c.absorb-placed.new.store in
+    let s = c.set_aside-placed.new.store in
     let vs = visits_in c.args.header.visits p.visits in
     record {
       size = omega arith;
-      place = place_fits c.args.header c.single.result p (parts s) c.absorb-placed.result vs refl c.absorb-placed.ensures.placed c.absorb-placed.ensures.parts;
-      few = others_few c.args.header c.single.result p (parts s) c.absorb-placed.result vs refl c.absorb-placed.ensures.placed c.absorb-placed.ensures.parts;
+      place = place_fits c.args.header c.single.result p (parts s) c.set_aside-placed.result vs refl c.set_aside-placed.ensures.placed c.set_aside-placed.ensures.parts;
+      few = others_few c.args.header c.single.result p (parts s) c.set_aside-placed.result vs refl c.set_aside-placed.ensures.placed c.set_aside-placed.ensures.parts;
       room = c.requires.visits;
     }
 
-pub overflow-add-result : goal.overflow-add-result
-overflow-add-result c = omega arith
+pub overflow_add-result : goal.overflow_add-result
+overflow_add-result c = omega arith
 
 pub returns : goal.returns
 returns c =
@@ -44,19 +44,19 @@ returns c =
     let e = c.args.reading in
     let v = c.single.result in
     let p = parts c.args.store.now in
-    let q = parts c.absorb-placed.new.store in
+    let q = parts c.set_aside-placed.new.store in
     let r = parts c.place-count.new.store in
-    let placed = c.absorb-placed.result in
+    let placed = c.set_aside-placed.result in
     let vs = visits_in h.visits p.visits in
-    let found = changes_found h v p q placed vs refl c.absorb-placed.ensures.placed c.absorb-placed.ensures.parts
+    let found = changes_found h v p q placed vs refl c.set_aside-placed.ensures.placed c.set_aside-placed.ensures.parts
     ∙ ap (λ (u : Visit). merging t h.watermark u vs) c.single.ensures in
-    let many = c.place-count.ensures.many ∙ merged_count h v p q placed vs refl c.absorb-placed.ensures.placed c.absorb-placed.ensures.parts
+    let many = c.place-count.ensures.many ∙ merged_count h v p q placed vs refl c.set_aside-placed.ensures.placed c.set_aside-placed.ensures.parts
     ∙ ap (λ (u : Visit). length (merge_in t u vs)) c.single.ensures in
-    let merged = merged_parts h v p q placed vs refl c.absorb-placed.ensures.placed c.absorb-placed.ensures.parts r c.place-count.ensures.parts
-    ∙ ap (λ (u : Visit). with_visits (visits-held (max h.visits (length (merge_in t u vs))) (merge_in t u vs) p.visits) p) c.single.ensures in
+    let merged = merged_parts h v p q placed vs refl c.set_aside-placed.ensures.placed c.set_aside-placed.ensures.parts r c.place-count.ensures.parts
+    ∙ ap (λ (u : Visit). with_visits (visits_held (max h.visits (length (merge_in t u vs))) (merge_in t u vs) p.visits) p) c.single.ensures in
     record {
       header = drafted_counts h e p c.place-count.result many;
-      changed = c.by-reading-changed.ensures.many ∙ ap outcome_count found;
-      parts = drafted_reading h e p r (parts c.insert-reading.new.store) merged c.insert-reading.ensures;
-      out = c.by-reading-changed.ensures.out ∙ ap (λ o. overlay (outcome_row o) c.args.out.now) found;
+      changed = c.by_reading-changed.ensures.many ∙ ap outcome_count found;
+      parts = drafted_reading h e p r (parts c.insert_reading.new.store) merged c.insert_reading.ensures;
+      out = c.by_reading-changed.ensures.out ∙ ap (λ o. overlay (outcome_row o) c.args.out.now) found;
     }

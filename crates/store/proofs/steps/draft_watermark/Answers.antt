@@ -11,8 +11,8 @@ returns c =
     let h = c.args.header in
     record {
       header = watermark_header h c.args.watermark (parts xs);
-      changed = c.by-watermark-changed.ensures.many;
+      changed = c.by_watermark-changed.ensures.many;
       parts = drafted_watermark h c.args.watermark (parts xs)
           (omega (arith, length-between xs visits_at readings_at (omega arith))) (omega (arith, length-between xs readings_at lines_at (omega arith)));
-      out = c.by-watermark-changed.ensures.out;
+      out = c.by_watermark-changed.ensures.out;
     }

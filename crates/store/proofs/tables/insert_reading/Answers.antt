@@ -9,4 +9,4 @@ pub returns : goal.returns
 returns c =
     let xs = c.args.store.now in
     let long : length c.insert.new.table ≡ lines_at - readings_at = omega (arith, length-between xs readings_at lines_at (omega arith)) in
-    parts_readings xs c.insert.new.table c.requires.size long ∙ ap (λ l. with_readings l (parts xs)) c.insert.ensures
+    parts_readings xs c.insert.new.table c.requires.size long ∙ ap (λ l. with_readings l (parts xs)) c.insert.ensures.held

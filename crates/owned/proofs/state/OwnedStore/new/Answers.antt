@@ -6,28 +6,28 @@ use Rattle.owned.specs.Written.{Written}
 use Rattle.owned.proofs.Writing.{first_written}
 use Rattle.owned.proofs.state.OwnedStore.new.Goals as goal
 
-pub returns-in-err-out : goal.returns-in-err-out
-returns-in-err-out c =
-    let e = c.from-residual-in-err-out.ensures.0 in
+pub returns-in_err-out : goal.returns-in_err-out
+returns-in_err-out c =
+    let e = c.from_residual-in_err-out.ensures.0 in
     record {
-      row = IfOk-from_err c.from-residual-in-err-out.result _ e;
-      out = IfOk-from_err c.from-residual-in-err-out.result _ e;
-      capacity = IfOk-from_err c.from-residual-in-err-out.result _ e;
+      row = IfOk-from_err c.from_residual-in_err-out.result _ e;
+      out = IfOk-from_err c.from_residual-in_err-out.result _ e;
+      capacity = IfOk-from_err c.from_residual-in_err-out.result _ e;
     }
 
-pub invariant-of-result : goal.invariant-of-result
-invariant-of-result c =
-    let v = c.in-ok-row.row in
-    let long : length c.clear.new.store ≡ v.len = omega (arith, c.as-mut-slice.ensures.len) in
+pub invariant_of-result : goal.invariant_of-result
+invariant_of-result c =
+    let v = c.in_ok-row.row in
+    let long : length c.clear.new.store ≡ v.len = omega (arith, c.as_mut_slice.ensures.len) in
     let cleared = with_items_is v c.clear.new.store long ∙ c.clear.ensures in
-    (∣ subst (λ (xs : List ℕ). Written xs 0 0) (sym cleared) (first_written c.args.terms c.as-mut-slice.result.now) ∣₁, tt)
+    record { written = ∣ subst (λ (xs : List ℕ). Written xs 0 0) (sym cleared) (first_written c.args.terms c.as_mut_slice.result.now) ∣₁ }
 
 pub returns : goal.returns
 returns c =
-    let v = c.in-ok-row.row in
-    let long : length c.clear.new.store ≡ v.len = omega (arith, c.as-mut-slice.ensures.len) in
+    let v = c.in_ok-row.row in
+    let long : length c.clear.new.store ≡ v.len = omega (arith, c.as_mut_slice.ensures.len) in
     record {
-      row = with_items_is v c.clear.new.store long ∙ c.clear.ensures ∙ ap (empty_row c.args.terms) (c.as-mut-slice.ensures.value ∙ c.in-ok-row.ensures.items-if-clones-equal (λ y e. e));
-      out = omega (arith, c.in-ok-out.out.ok.0, c.in-ok-out.ensures.len);
+      row = with_items_is v c.clear.new.store long ∙ c.clear.ensures ∙ ap (empty_row c.args.terms) (c.as_mut_slice.ensures.value ∙ c.in_ok-row.ensures.items_if_clones_equal (λ y e. e));
+      out = omega (arith, c.in_ok-out.out.ok.0, c.in_ok-out.ensures.len);
       capacity = refl;
     }

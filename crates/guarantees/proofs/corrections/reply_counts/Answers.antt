@@ -1,5 +1,5 @@
 use Rattle.guarantees.proofs.Follow.{reply_counts}
-use Rattle.guarantees.proofs.changes.reply_counts.Goals as goal
+use Rattle.guarantees.proofs.corrections.reply_counts.Goals as goal
 
 pub returns : goal.returns
 returns c = reply_counts

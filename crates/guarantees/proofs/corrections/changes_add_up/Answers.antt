@@ -1,5 +1,5 @@
 use Rattle.guarantees.proofs.Follow.{row_changes_add_up}
-use Rattle.guarantees.proofs.changes.changes_add_up.Goals as goal
+use Rattle.guarantees.proofs.corrections.changes_add_up.Goals as goal
 
 pub returns : goal.returns
 returns c = row_changes_add_up
