@@ -7,7 +7,7 @@ use Rattle.visit.specs.declared.Terms.{Terms}
 use Rattle.visit.specs.declared.Visit.{Visit}
 use Rattle.visit.specs.Readings.{too_late}
 use Rattle.visit.specs.Visits.{closed, same_visit, single}
-use Rattle.command.specs.declared.Command.TheVariants.{Reading as A-reading, Watermark}
+use Rattle.command.specs.declared.Command.TheVariants.{Reading as AReading, Watermark}
 use Rattle.command.specs.Outcomes.{changed}
 use Rattle.model.specs.Sessions.{closed_visits, contains, difference, some}
 use Rattle.model.specs.Store.{Store, merge_in, store_outcome}
@@ -46,7 +46,7 @@ rise_fewer t from to vs gone new o h =
     (rw g (omega arith), subst (λ (l : List Visit). length l ≤ length vs) n (difference_fewer t to vs (closed_visits t from vs)))
 
 -- So `out` has room for it.
-reading_taken : (t : Terms) (s : Store) (e : Reading) (gone new : List Visit) → store_outcome t s (A-reading e) ≡ changed gone new → merging t s.watermark (single e) s.live ≡ changed gone new
+reading_taken : (t : Terms) (s : Store) (e : Reading) (gone new : List Visit) → store_outcome t s (AReading e) ≡ changed gone new → merging t s.watermark (single e) s.live ≡ changed gone new
 reading_taken t s e gone new h =
     split (too_late t s.watermark e)
     (λ o. cc)
@@ -59,7 +59,7 @@ watermark_taken t s m gone new h =
     (λ o. (ltb-false m s.watermark o, simp o at h))
 
 pub out_suffices : OutSuffices
-out_suffices t s (A-reading e) gone new h =
+out_suffices t s (AReading e) gone new h =
     let few = merging_fewer t s.watermark (single e) s.live gone new (reading_taken t s e gone new h) in
     record { retracted = few.0; added = few.1; out = λ n. omega (arith, length_change_row gone new) }
 out_suffices t s (Watermark m) gone new h =

@@ -3,7 +3,7 @@ use Rattle.std.specs.Prelude.{◌≡◌, ℕ, ◌+◌, ◌*◌, ◌≤◌, List,
 use Rattle.visit.specs.declared.Terms.{Terms}
 use Rattle.visit.specs.declared.Visit.{Visit}
 use Rattle.command.specs.declared.Command.{Command}
-use Rattle.command.specs.declared.Command.TheVariants.{Reading as A-reading, Watermark}
+use Rattle.command.specs.declared.Command.TheVariants.{Reading as AReading, Watermark}
 use Rattle.command.specs.Outcomes.{changed}
 use Rattle.rows.specs.Visits.{visit_width}
 use Rattle.model.specs.Store.{Store, store_outcome}
@@ -26,11 +26,11 @@ out_width = head_width + out_visits * visit_width
 
 -- The most that a command retracts and adds among n live visits, whatever they are.
 abbrev pub most_retracted : Command → ℕ → ℕ
-most_retracted (A-reading e) n = n
+most_retracted (AReading e) n = n
 most_retracted (Watermark m) n = 0
 
 abbrev pub most_added : Command → ℕ → ℕ
-most_added (A-reading e) n = 1
+most_added (AReading e) n = 1
 most_added (Watermark m) n = n
 
 -- No command needs more of `out` than that, and a store within its room never more than `out` has to have.

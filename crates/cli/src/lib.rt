@@ -6,7 +6,7 @@ pub mod options;
 
 ghost use Rattle.cli.specs.Flags.{Means};
 ghost use Rattle.cli.specs.Noted.{no_options, noted as Noted};
-ghost use Rattle.cli.specs.declared.flags.Flag.{Flag as A-flag};
+ghost use Rattle.cli.specs.declared.flags.Flag.{Flag as AFlag};
 ghost use Rattle.std.specs.Prelude.{◌≡◌, string_bytes, ◌==◌, slice_index};
 
 use anyhow::anyhow;
@@ -57,7 +57,7 @@ impl Options {
 
     // The options with one word more.
     pub fn noted(self, word: String) -> Result<Options, Usage>
-        ensures { (f : A-flag) × Means (string_bytes word) f × (result ≡ Noted self word f) }
+        ensures { (f : AFlag) × Means (string_bytes word) f × (result ≡ Noted self word f) }
     {
         match flag(word.as_str()) {
             Flag::Help => Ok(Options { help: true, ..self }),

@@ -3,7 +3,7 @@ use Rattle.std.proofs.Common.{◌≡◌, ℕ, Bool, true, false, List, [], ◌�
 use Rattle.std.proofs.lemmas.Bool.{cond-false, cond-true}
 use Rattle.visit.specs.declared.Terms.{Terms}
 use Rattle.command.specs.declared.Command.{Command}
-use Rattle.command.specs.declared.Command.TheVariants.{Reading as A-reading, Watermark}
+use Rattle.command.specs.declared.Command.TheVariants.{Reading as AReading, Watermark}
 use Rattle.command.specs.Outcomes.{Outcome}
 use Rattle.model.specs.Reference.{Reference, closed_of, empty, outcome_by, state_by}
 use Rattle.model.specs.Store.{Store}
@@ -45,8 +45,8 @@ module _ (t : Terms) (p : ℕ → Bool) (rest : List ℕ) where
   module _ (k : Reference) (s : Standing t k) (r : Standing t (part_by p k)) (c : Call) (taken : withheld (answer (row_of k) c).reply ≡ false) where
     free_part : (d : Command) → room_fault c.capacity (header_of t (image t k)) (image t k) d ≡ None
         → room_fault c.capacity (header_of t (image t (part_by p k))) (image t (part_by p k)) d ≡ None
-    free_part (A-reading e) h =
-        subst (λ (z : Store). room_fault c.capacity (header_of t z) z (A-reading e) ≡ None) (sym (image_part t p k s.sorted)) (room_part t p c.capacity (image t k) e h)
+    free_part (AReading e) h =
+        subst (λ (z : Store). room_fault c.capacity (header_of t z) z (AReading e) ≡ None) (sym (image_part t p k s.sorted)) (room_part t p c.capacity (image t k) e h)
     free_part (Watermark m) h = watermark_free t (image t (part_by p k)) r.roomy c.capacity m
 
     part_open : withheld (answer (row_of (part_by p k)) c).reply ≡ false

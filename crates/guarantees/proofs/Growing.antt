@@ -6,7 +6,7 @@ use Rattle.visit.specs.declared.Reading.{Reading}
 use Rattle.visit.specs.declared.Terms.{Terms}
 use Rattle.visit.specs.Readings.{reading_before, too_late}
 use Rattle.command.specs.declared.Command.{Command}
-use Rattle.command.specs.declared.Command.TheVariants.{Reading as A-reading, Watermark}
+use Rattle.command.specs.declared.Command.TheVariants.{Reading as AReading, Watermark}
 use Rattle.command.specs.declared.Refusal.{Refusal}
 use Rattle.command.specs.declared.Reply.{Reply}
 use Rattle.command.specs.Bounds.{command_fault, terms_fault, word_limit}
@@ -38,11 +38,11 @@ Grows k next = (length next.readings ≤ length k.readings + 1) × (amounts next
 stays : (k : Reference) → Grows k k
 stays k = (omega arith, omega arith)
 
-amount_within : (e : Reading) → command_fault (A-reading e) ≡ None → e.amount < word_limit
+amount_within : (e : Reading) → command_fault (AReading e) ≡ None → e.amount < word_limit
 amount_within e h = grind (arith, nat_tests)
 
 plan_grows : (t : Terms) (k : Reference) (c : Command) → command_fault c ≡ None → Grows k (state_by k (plan t k c))
-plan_grows t k (A-reading e) h =
+plan_grows t k (AReading e) h =
     split (too_late t k.watermark e)
     (λ l. simp l (stays k))
     (λ l. split (contains t e k.readings)

@@ -10,7 +10,7 @@ use Rattle.visit.specs.declared.Visit.{Visit}
 use Rattle.visit.specs.Readings.{kept, same_reading, too_late}
 use Rattle.visit.specs.Visits.{joins, live}
 use Rattle.command.specs.declared.Command.{Command}
-use Rattle.command.specs.declared.Command.TheVariants.{Reading as A-reading, Watermark}
+use Rattle.command.specs.declared.Command.TheVariants.{Reading as AReading, Watermark}
 use Rattle.command.specs.declared.Refusal.{Refusal}
 use Rattle.command.specs.declared.Refusal.TheVariants.{Duplicate}
 use Rattle.command.specs.Bounds.{command_fault, terms_fault, time_limit, word_limit}
@@ -45,10 +45,10 @@ use Rattle.guarantees.proofs.Sums.{visit_times}
 
 -- Every reading taken in was within its bounds, and so is the card of every visit.
 abbrev Bounded : Reading → Type 0
-Bounded e = command_fault (A-reading e) ≡ None
+Bounded e = command_fault (AReading e) ≡ None
 
 step_bounded : (t : Terms) (k : Reference) (c : Command) → command_fault c ≡ None → All Bounded k.readings → All Bounded (step t k c).readings
-step_bounded t k (A-reading e) b a =
+step_bounded t k (AReading e) b a =
     split (too_late t k.watermark e) (λ o. simp o a)
     (λ o. split (contains t e k.readings) (λ q. simp (o, q) a) (λ q. simp (o, q) (all_insert t Bounded e k.readings b a)))
 step_bounded t k (Watermark m) b a = split (ltb m k.watermark) (λ o. simp o a) (λ o. simp o a)
@@ -87,8 +87,8 @@ contains_alike : (t : Terms) (n : ℕ) (e : Reading) (xs : List Reading) → con
 contains_alike t n e [] = refl
 contains_alike t n e (x ∷ xs) = simp (same_alike t n e x, contains_alike t n e xs)
 
-duplicate_alike : (t : Terms) (s : Store) (n : ℕ) (e : Reading) → store_outcome t s (A-reading e) ≡ refused (Duplicate e.time)
-    → store_outcome t s (A-reading (with_amount n e)) ≡ refused (Duplicate e.time)
+duplicate_alike : (t : Terms) (s : Store) (n : ℕ) (e : Reading) → store_outcome t s (AReading e) ≡ refused (Duplicate e.time)
+    → store_outcome t s (AReading (with_amount n e)) ≡ refused (Duplicate e.time)
 duplicate_alike t s n e h =
     let l = late_alike t s.watermark n e in
     let c = contains_alike t n e s.seen in
@@ -98,7 +98,7 @@ duplicate_alike t s n e h =
     (λ q. simp (l, o, c, q))
     (λ q. absurd (let z : ◌≡◌ {A = ℕ} 0 1 = cc (simp (o, q) at h) in omega arith)))
 
-taken_number : (t : Terms) (s : Store) (v : Visit) (e : Reading) → ChangesVisit t s v e → reply_number (reply_of (store_outcome t s (A-reading e))) ≡ 0
+taken_number : (t : Terms) (s : Store) (v : Visit) (e : Reading) → ChangesVisit t s v e → reply_number (reply_of (store_outcome t s (AReading e))) ≡ 0
 taken_number t s v e h = let a = h.timely in let b = h.unseen in simp (a, b)
 
 module _ (t : Terms) (k : Reference) (s : Standing t k) (rest : List ℕ) where
@@ -109,21 +109,21 @@ module _ (t : Terms) (k : Reference) (s : Standing t k) (rest : List ℕ) where
   holds = clean_store t (image t k) rest s.roomy.fits
 
   -- The store does by its rules what is asked, and the row holds what it then is.
-  handed_reply : (e : Reading) (c : Call) → HandsOver t e c → withheld (answer row c).reply ≡ false → (answer row c).reply ≡ reply_of (store_outcome t (image t k) (A-reading e))
+  handed_reply : (e : Reading) (c : Call) → HandsOver t e c → withheld (answer row c).reply ≡ false → (answer row c).reply ≡ reply_of (store_outcome t (image t k) (AReading e))
   handed_reply e c h o =
-      let p : planned t k c ≡ plan t k (A-reading e) = first_none (call_faults t c) (plan t k (command_in c.command)) h.fine ∙ ap (plan t k) h.reading in
+      let p : planned t k c ≡ plan t k (AReading e) = first_none (call_faults t c) (plan t k (command_in c.command)) h.fine ∙ ap (plan t k) h.reading in
       (moved t k s rest c).right.reply o
       ∙ ap (λ (q : Result Reference Refusal). reply_of (outcome_by t k q)) p
-      ∙ ap reply_of (sym (outcome_mirror t k s.sorted (A-reading e)))
+      ∙ ap reply_of (sym (outcome_mirror t k s.sorted (AReading e)))
 
-  handed_store : (e : Reading) (c : Call) → HandsOver t e c → withheld (answer row c).reply ≡ false → store_in (answer row c).store ≡ store_step t (image t k) (A-reading e)
+  handed_store : (e : Reading) (c : Call) → HandsOver t e c → withheld (answer row c).reply ≡ false → store_in (answer row c).store ≡ store_step t (image t k) (AReading e)
   handed_store e c h o =
-      let p : planned t k c ≡ plan t k (A-reading e) = first_none (call_faults t c) (plan t k (command_in c.command)) h.fine ∙ ap (plan t k) h.reading in
+      let p : planned t k c ≡ plan t k (AReading e) = first_none (call_faults t c) (plan t k (command_in c.command)) h.fine ∙ ap (plan t k) h.reading in
       let m = moved t k s rest c in
       ap store_in m.store
       ∙ clean_store t (image t (next t k c (answer row c).reply)) rest m.stands.roomy.fits
       ∙ ap (image t) (next_heard t k c (answer row c).reply o ∙ ap (state_by k) p)
-      ∙ sym (step_mirror t k s.sorted (A-reading e))
+      ∙ sym (step_mirror t k s.sorted (AReading e))
 
   module _ (sound : terms_fault t ≡ None) (bounded : All Bounded k.readings) where
     abbrev WithinLimits : Visit → Type 0
@@ -148,11 +148,11 @@ module _ (t : Terms) (k : Reference) (s : Standing t k) (rest : List ℕ) where
             bounds = within t e sound b;
             done = λ c over o. ap reply_number (handed_reply e c over o) ∙ taken_number t (image t k) v e q;
             gone = λ c over o has.
-                both_ways _ q.changes ((in_decides t v (store_step t (image t k) (A-reading e)).live).1 (subst (λ (z : Store). Has z.live v) (handed_store e c over o) has));
+                both_ways _ q.changes ((in_decides t v (store_step t (image t k) (AReading e)).live).1 (subst (λ (z : Store). Has z.live v) (handed_store e c over o) has));
           },
         )
 
-    again : (e : Reading) → Bounded e × (store_outcome t (image t k) (A-reading e) ≡ refused (Duplicate e.time)) → RefusedAgain t row e
+    again : (e : Reading) → Bounded e × (store_outcome t (image t k) (AReading e) ≡ refused (Duplicate e.time)) → RefusedAgain t row e
     again e h =
         record {
           bounds = within t e sound h.0;
@@ -170,8 +170,8 @@ module _ (t : Terms) (k : Reference) (s : Standing t k) (rest : List ℕ) where
               (All-weaker (λ v. WithinLimits v × MayChange t (image t k) v) (RowMayChange t row) changes_row live_ones (all_both WithinLimits (MayChange t (image t k)) live_ones live_within all.visits));
           readings =
               subst (λ (z : Store). All (RefusedAgain t row) z.seen) (sym holds)
-              (All-weaker (λ e. Bounded e × (store_outcome t (image t k) (A-reading e) ≡ refused (Duplicate e.time))) (RefusedAgain t row) again kept_ones
-              (all_both Bounded (λ e. store_outcome t (image t k) (A-reading e) ≡ refused (Duplicate e.time)) kept_ones (all_kept_by (kept t k.watermark) Bounded k.readings bounded) all.readings));
+              (All-weaker (λ e. Bounded e × (store_outcome t (image t k) (AReading e) ≡ refused (Duplicate e.time))) (RefusedAgain t row) again kept_ones
+              (all_both Bounded (λ e. store_outcome t (image t k) (AReading e) ≡ refused (Duplicate e.time)) kept_ones (all_kept_by (kept t k.watermark) Bounded k.readings bounded) all.readings));
         }
 
 -- With terms out of bounds nothing is kept.

@@ -7,7 +7,7 @@ use Rattle.visit.specs.declared.Reading.{Reading}
 use Rattle.visit.specs.declared.Terms.{Terms}
 use Rattle.visit.specs.Readings.{too_late}
 use Rattle.command.specs.declared.Command.{Command}
-use Rattle.command.specs.declared.Command.TheVariants.{Reading as A-reading, Watermark}
+use Rattle.command.specs.declared.Command.TheVariants.{Reading as AReading, Watermark}
 use Rattle.command.specs.declared.Refusal.{Refusal}
 use Rattle.command.specs.declared.Refusal.TheVariants.{TooLate}
 use Rattle.command.specs.declared.Reply.TheVariants.{Refused}
@@ -58,8 +58,8 @@ judged_drafts xs c h =
 
 -- Which reading is too late, and what is answered to it.
 late_by : (xs out : List ℕ) (t : Terms) (s : Store) (c : Command) (time : ℕ) → (applied_by xs out (draft t s c)).reply ≡ Refused (TooLate time)
-    → (e : Reading) × (c ≡ A-reading e) × (too_late t s.watermark e ≡ true) × (e.time ≡ time)
-late_by xs out t s (A-reading e) time h =
+    → (e : Reading) × (c ≡ AReading e) × (too_late t s.watermark e ≡ true) × (e.time ≡ time)
+late_by xs out t s (AReading e) time h =
     split (too_late t s.watermark e)
     (λ o. (e, refl, o, cc (simp o at h)))
     (λ o. split (contains t e s.seen)
@@ -70,7 +70,7 @@ late_by xs out t s (Watermark m) time h =
     (λ o. absurd (let z : ◌≡◌ {A = ℕ} 0 1 = cc (simp o at h) in omega arith))
     (λ o. absurd (let z : ◌≡◌ {A = ℕ} 0 1 = cc (simp o at h) in omega arith))
 
-late_answer : (xs out : List ℕ) (t : Terms) (s : Store) (e : Reading) → too_late t s.watermark e ≡ true → (applied_by xs out (draft t s (A-reading e))).reply ≡ Refused (TooLate e.time)
+late_answer : (xs out : List ℕ) (t : Terms) (s : Store) (e : Reading) → too_late t s.watermark e ≡ true → (applied_by xs out (draft t s (AReading e))).reply ≡ Refused (TooLate e.time)
 late_answer xs out t s e h = simp h
 
 pub too_late_alone : TooLateAlone

@@ -5,7 +5,7 @@ use Rattle.visit.specs.declared.Reading.{Reading}
 use Rattle.visit.specs.declared.Terms.{Terms}
 use Rattle.visit.specs.declared.Visit.{Visit}
 use Rattle.command.specs.declared.Command.{Command}
-use Rattle.command.specs.declared.Command.TheVariants.{Reading as A-reading, Watermark}
+use Rattle.command.specs.declared.Command.TheVariants.{Reading as AReading, Watermark}
 use Rattle.command.specs.declared.Reply.TheVariants.{Done}
 use Rattle.command.specs.Outcomes.{Outcome, changed, refused, reply_of}
 use Rattle.model.specs.Few.{became, met}
@@ -73,14 +73,14 @@ written_now t xs before c n done = written t (reference_now t xs before) c (answ
 -- What the model says of a reading, of a reference that calls lead to.
 abbrev MetAlone : Terms → Reference → Type 0
 MetAlone t k =
-    (e : Reading) (gone new : List Visit) → outcome t k (A-reading e) ≡ changed gone new
+    (e : Reading) (gone new : List Visit) → outcome t k (AReading e) ≡ changed gone new
     → ((gone ≡ closed_visits t k.watermark (met t k e)) × (new ≡ closed_visits t k.watermark (became t k e ∷ []))) × ((length gone ≤ 2) × (length new ≤ 1))
 
 met_alone : (t : Terms) (k : Reference) → Reached t k → MetAlone t k
 met_alone t k r = subst (MetAlone t) (sym r.1) (λ e gone new o. (only_what_is_met t r.0 e gone new o, few_changes t r.0 e gone new o))
 
 abbrev NoneOnTime : Terms → Reference → Type 0
-NoneOnTime t k = (e : Reading) (gone new : List Visit) → k.watermark ≤ e.time → outcome t k (A-reading e) ≡ changed gone new → (gone ≡ []) × (new ≡ [])
+NoneOnTime t k = (e : Reading) (gone new : List Visit) → k.watermark ≤ e.time → outcome t k (AReading e) ≡ changed gone new → (gone ≡ []) × (new ≡ [])
 
 none_on_time : (t : Terms) (k : Reference) → Reached t k → NoneOnTime t k
 none_on_time t k r = subst (NoneOnTime t) (sym r.1) (on_time t r.0)
@@ -100,14 +100,14 @@ pub row_few_changes : RowFewChanges
 row_few_changes t xs before c e n q done =
     let k : Reference = reference_now t xs before in
     let w = written_now t xs before c n done in
-    let o : outcome t k (A-reading e) ≡ changed w.gone w.new = sym (ap (outcome t k) q) ∙ w.outcome in
+    let o : outcome t k (AReading e) ≡ changed w.gone w.new = sym (ap (outcome t k) q) ∙ w.outcome in
     few_by t k e w.gone w.new c.out _ w.out (met_alone t k (reached_now t xs before) e w.gone w.new o)
 
 pub row_on_time : RowOnTime
 row_on_time t xs before c e n q h done =
     let k : Reference = reference_now t xs before in
     let w = written_now t xs before c n done in
-    let o : outcome t k (A-reading e) ≡ changed w.gone w.new = sym (ap (outcome t k) q) ∙ w.outcome in
+    let o : outcome t k (AReading e) ≡ changed w.gone w.new = sym (ap (outcome t k) q) ∙ w.outcome in
     let stands = (row_stands t xs before).kept.watermark in
     let none = none_on_time t k (reached_now t xs before) e w.gone w.new (omega arith) o in (
       w.count ∙ ap (λ (vs : List Visit). length vs + length w.new) none.0 ∙ ap (λ (vs : List Visit). 0 + length vs) none.1,

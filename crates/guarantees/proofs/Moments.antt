@@ -4,7 +4,7 @@ use Rattle.std.proofs.lemmas.Bool.{eqb-true, lt-ltb, or_cases, true≢false}
 use Rattle.visit.specs.declared.Reading.{Reading}
 use Rattle.visit.specs.declared.Terms.{Terms}
 use Rattle.visit.specs.Readings.{reading_before}
-use Rattle.command.specs.declared.Command.TheVariants.{Reading as A-reading}
+use Rattle.command.specs.declared.Command.TheVariants.{Reading as AReading}
 use Rattle.command.specs.declared.Refusal.{Refusal}
 use Rattle.command.specs.declared.Reply.{Reply}
 use Rattle.command.specs.declared.Reply.TheVariants.{Refused}
@@ -93,7 +93,7 @@ watermark_has_room t xs before c m q e =
     w.no_room (sym (ap reply_number reply) ∙ e) (ap (room_fault c.capacity (header_of t (image t k)) (image t k)) q ∙ free))
 
 reading_free : (cap : Capacity) (h : Header) (z : Store) (e : Reading) → h.visits < min cap.visits visits_room → h.readings < min cap.readings readings_room
-    → h.lines + h.visits < lines_room → room_fault cap h z (A-reading e) ≡ None
+    → h.lines + h.visits < lines_room → room_fault cap h z (AReading e) ≡ None
 reading_free cap h z e v r l =
     simp (lt-ltb h.visits (min cap.visits visits_room) v, lt-ltb h.readings (min cap.readings readings_room) r, lt-ltb (h.lines + h.visits) lines_room l)
 
@@ -104,8 +104,8 @@ reading_has_room t xs before c e q v r l seven =
     let k : Reference = reference_now t xs before in
     let h : Header = header_of t (image t k) in
     let same : header_in (row_now t xs before) ≡ h = ap header_in (left_now t xs before).row in
-    let free : room_fault c.capacity h (image t k) (A-reading e) ≡ None =
-    subst (λ (y : Header). room_fault c.capacity y (image t k) (A-reading e) ≡ None) same (reading_free c.capacity (header_in (row_now t xs before)) (image t k) e v r l) in
+    let free : room_fault c.capacity h (image t k) (AReading e) ≡ None =
+    subst (λ (y : Header). room_fault c.capacity y (image t k) (AReading e) ≡ None) same (reading_free c.capacity (header_in (row_now t xs before)) (image t k) e v r l) in
     w.no_room (sym (ap reply_number reply) ∙ seven) (ap (room_fault c.capacity h (image t k)) q ∙ free))
 
 pub store_sound : StoreSound

@@ -12,7 +12,7 @@ use Rattle.visit.specs.Lines.{line_before, line_of, same_key}
 use Rattle.visit.specs.Readings.{kept, same_reading, too_late}
 use Rattle.visit.specs.Visits.{live, same_visit}
 use Rattle.command.specs.declared.Command.{Command}
-use Rattle.command.specs.declared.Command.TheVariants.{Reading as A-reading, Watermark}
+use Rattle.command.specs.declared.Command.TheVariants.{Reading as AReading, Watermark}
 use Rattle.command.specs.declared.Refusal.{Refusal}
 use Rattle.model.specs.Cards.{of_cards}
 use Rattle.model.specs.Ledger.{add_line, add_visits, totals}
@@ -116,8 +116,8 @@ module _ (t : Terms) (p : ℕ → Bool) where
         ledger = all_kept_by (λ l. p l.card) SmallLine s.ledger z.ledger;
       }
 
-  pub room_part : (cap : Capacity) (s : Store) (e : Reading) → room_fault cap (header_of t s) s (A-reading e) ≡ None
-      → room_fault cap (header_of t (store_part p s)) (store_part p s) (A-reading e) ≡ None
+  pub room_part : (cap : Capacity) (s : Store) (e : Reading) → room_fault cap (header_of t s) s (AReading e) ≡ None
+      → room_fault cap (header_of t (store_part p s)) (store_part p s) (AReading e) ≡ None
   room_part cap s e h =
       let v : length s.live < min cap.visits visits_room = grind (arith, nat_tests) in
       let n : length s.seen < min cap.readings readings_room = grind (arith, nat_tests) in
@@ -153,9 +153,9 @@ module _ (t : Terms) (p : ℕ → Bool) where
   step_other k c s h = after_part t p k (c ∷ []) s ∙ ap (after t (part_by p k)) (cond-false (of_cards p c) (c ∷ []) [] h)
 
   planned_command : (k : Reference) (c : Command) → SortedReadings t k.readings → of_cards p c ≡ true → plan t (part_by p k) c ≡ plan_part (plan t k c)
-  planned_command k (A-reading e) s h =
+  planned_command k (AReading e) s h =
       let q = contains_part e k.readings h in
-      let i = step_part k (A-reading e) s h in
+      let i = step_part k (AReading e) s h in
       split (too_late t k.watermark e) (λ o. simp o)
       (λ o. split (contains t e k.readings) (λ d. simp (o, q, d)) (λ d. simp (o, q, d) (ap Ok (simp (o, q, d) at i))))
   planned_command k (Watermark m) s h = split (ltb m k.watermark) (λ o. simp o) (λ o. simp o)

@@ -4,7 +4,7 @@ use Rattle.std.specs.Option.{option_map}
 use Rattle.std.specs.List.{AllByRecursion as All}
 use Rattle.visit.specs.declared.Terms.{Terms}
 use Rattle.command.specs.declared.Command.{Command}
-use Rattle.command.specs.declared.Command.TheVariants.{Reading as A-reading, Watermark}
+use Rattle.command.specs.declared.Command.TheVariants.{Reading as AReading, Watermark}
 use Rattle.command.specs.declared.Refusal.{Refusal}
 use Rattle.command.specs.declared.Refusal.TheVariants.{BadStore, BadTerms, BadCommand, Full, ShortOut}
 use Rattle.command.specs.declared.Reply.TheVariants.{Refused}
@@ -64,7 +64,7 @@ module _ (P : Refusal → Type 0) where
       (search (cond_only, some, none_only), (bad _, (bad _, (bad _, (bad _, tt)))))
 
   pub room_only : ((n : ℕ) → P (Full n)) → (cap : Capacity) (t : Header) (s : Store) (c : Command) → Only P (room_fault cap t s c)
-  room_only h cap t s (A-reading e) = let some : (n : ℕ) → Only P (Some (Full n)) = some_only Full h in search (cond_only, some, none_only)
+  room_only h cap t s (AReading e) = let some : (n : ℕ) → Only P (Some (Full n)) = some_only Full h in search (cond_only, some, none_only)
   room_only h cap t s (Watermark m) = let some : (n : ℕ) → Only P (Some (Full n)) = some_only Full h in search (cond_only, some, none_only)
 
   pub terms_only : ((n : ℕ) → P (BadTerms n)) → (t : Terms) → Only P (terms_fault t)

@@ -8,7 +8,7 @@ use Rattle.visit.specs.declared.Visit.{Visit}
 use Rattle.visit.specs.Readings.{kept, too_late}
 use Rattle.visit.specs.Visits.{live, same_visit, single}
 use Rattle.command.specs.declared.Command.{Command}
-use Rattle.command.specs.declared.Command.TheVariants.{Reading as A-reading, Watermark}
+use Rattle.command.specs.declared.Command.TheVariants.{Reading as AReading, Watermark}
 use Rattle.model.specs.Sessions.{closed_visits, contains, difference, insert_reading, some}
 use Rattle.model.specs.Store.{Draft, Store, closed_after, closed_before, draft, empty_store, finish, merge_in}
 use Rattle.model.proofs.Common.{kept_shorter, split}
@@ -57,7 +57,7 @@ module _ (t : Terms) (s : Store) (r : Roomy t s) where
       }
 
   -- A reading takes a visit, a reading and a line at most.
-  room_reading : (cap : Capacity) (e : Reading) → room_fault cap (header_of t s) s (A-reading e) ≡ None
+  room_reading : (cap : Capacity) (e : Reading) → room_fault cap (header_of t s) s (AReading e) ≡ None
       → LeavesRoom t s (record { live = merge_in t (single e) s.live; seen = insert_reading t e s.seen; watermark = s.watermark })
   room_reading cap e h =
       let v : length s.live < visits_room = grind (arith, nat_tests) in
@@ -85,7 +85,7 @@ module _ (t : Terms) (s : Store) (r : Roomy t s) where
 
   -- Either kind of command leaves room.
   pub leaves_room : (cap : Capacity) (c : Command) (d : Draft) → room_fault cap (header_of t s) s c ≡ None → draft t s c ≡ Ok d → LeavesRoom t s d
-  leaves_room cap (A-reading e) d h q =
+  leaves_room cap (AReading e) d h q =
       split (too_late t s.watermark e)
       (λ o. absurd (let z : ◌≡◌ {A = ℕ} 0 1 = cc (simp o at q) in omega arith))
       (λ o. split (contains t e s.seen)

@@ -7,7 +7,7 @@ use Rattle.visit.specs.declared.Reading.{Reading}
 use Rattle.visit.specs.declared.Terms.{Terms}
 use Rattle.visit.specs.Readings.{too_late}
 use Rattle.command.specs.declared.Command.{Command}
-use Rattle.command.specs.declared.Command.TheVariants.{Reading as A-reading, Watermark}
+use Rattle.command.specs.declared.Command.TheVariants.{Reading as AReading, Watermark}
 use Rattle.command.specs.declared.Refusal.{Refusal}
 use Rattle.command.specs.declared.Refusal.TheVariants.{BadTerms}
 use Rattle.command.specs.declared.Reply.TheVariants.{Refused}
@@ -49,14 +49,14 @@ abbrev WithinBy : Result Reference Refusal → Type 0
 WithinBy (Ok k) = Within k
 WithinBy (Err r) = Unit {0}
 
-time_within : (e : Reading) → command_fault (A-reading e) ≡ None → e.time < time_limit
+time_within : (e : Reading) → command_fault (AReading e) ≡ None → e.time < time_limit
 time_within e h = grind (arith, nat_tests)
 
 mark_within : (m : ℕ) → command_fault (Watermark m) ≡ None → m < time_limit
 mark_within m h = grind (arith, nat_tests)
 
 plan_within : (t : Terms) (k : Reference) (c : Command) → command_fault c ≡ None → Within k → WithinBy (plan t k c)
-plan_within t k (A-reading e) h w =
+plan_within t k (AReading e) h w =
     split (too_late t k.watermark e)
     (λ l. simp l tt)
     (λ l. split (contains t e k.readings)
@@ -141,7 +141,7 @@ module _ (t : Terms) (k : Reference) (s : Standing t k) (rest : List ℕ) where
 
 -- A command that reaches the reference's plan, or is refused on the way to it, is not withheld.
 plan_open : (t : Terms) (k : Reference) (c : Command) → withheld (reply_of (outcome_by t k (plan t k c))) ≡ false
-plan_open t k (A-reading e) =
+plan_open t k (AReading e) =
     split (too_late t k.watermark e) (λ l. simp l) (λ l. split (contains t e k.readings) (λ o. simp (l, o)) (λ o. simp (l, o)))
 plan_open t k (Watermark m) = split (ltb m k.watermark) (λ o. simp o) (λ o. simp o)
 

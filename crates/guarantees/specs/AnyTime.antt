@@ -2,7 +2,7 @@
 use Rattle.std.specs.Prelude.{◌≡◌, ℕ, ◌+◌, ◌^◌, ◌<◌, ◌≤◌, min, List, length, drop, Some, sum_by, ◌≢◌}
 use Rattle.visit.specs.declared.Reading.{Reading}
 use Rattle.visit.specs.declared.Terms.{Terms}
-use Rattle.command.specs.declared.Command.TheVariants.{Reading as A-reading, Watermark}
+use Rattle.command.specs.declared.Command.TheVariants.{Reading as AReading, Watermark}
 use Rattle.command.specs.declared.Refusal.{Refusal}
 use Rattle.command.specs.declared.Reply.TheVariants.{Refused}
 use Rattle.command.specs.Bounds.{terms_fault}
@@ -74,7 +74,7 @@ WatermarkHasRoom =
 abbrev pub ReadingHasRoom : Type 0
 ReadingHasRoom =
     (t : Terms) (xs : List ℕ) (before : List Call) (c : Call) (e : Reading)
-    → command_in c.command ≡ A-reading e
+    → command_in c.command ≡ AReading e
     → (header_in (row_now t xs before)).visits < min c.capacity.visits visits_room
     → (header_in (row_now t xs before)).readings < min c.capacity.readings readings_room
     → (header_in (row_now t xs before)).lines + (header_in (row_now t xs before)).visits < lines_room

@@ -2,7 +2,7 @@
 use Rattle.std.specs.Prelude.{◌≡◌, ℕ, ◌≤◌, List, [], ◌∷◌, drop, filter}
 use Rattle.visit.specs.declared.Reading.{Reading}
 use Rattle.visit.specs.declared.Terms.{Terms}
-use Rattle.command.specs.declared.Command.TheVariants.{Reading as A-reading, Watermark}
+use Rattle.command.specs.declared.Command.TheVariants.{Reading as AReading, Watermark}
 use Rattle.command.specs.declared.Reply.TheVariants.{Done}
 use Rattle.model.specs.Few.{became, met}
 use Rattle.model.specs.Reference.{Reference}
@@ -26,14 +26,14 @@ pub record FewWritten (t : Terms) (k : Reference) (e : Reading) (out : List ℕ)
 abbrev pub RowFewChanges : Type 0
 RowFewChanges =
     (t : Terms) (xs : List ℕ) (before : List Call) (c : Call) (e : Reading) (n : ℕ)
-    → command_in c.command ≡ A-reading e → (answer (row_now t xs before) c).reply ≡ Done n
+    → command_in c.command ≡ AReading e → (answer (row_now t xs before) c).reply ≡ Done n
     → FewWritten t (reference_now t xs before) e (answer (row_now t xs before) c).out
 
 -- A reading that is not behind the watermark in the row changes nothing that is closed: two counts of 0, and all else in `out` as it was.
 abbrev pub RowOnTime : Type 0
 RowOnTime =
     (t : Terms) (xs : List ℕ) (before : List Call) (c : Call) (e : Reading) (n : ℕ)
-    → command_in c.command ≡ A-reading e → (header_in (row_now t xs before)).watermark ≤ e.time → (answer (row_now t xs before) c).reply ≡ Done n
+    → command_in c.command ≡ AReading e → (header_in (row_now t xs before)).watermark ≤ e.time → (answer (row_now t xs before) c).reply ≡ Done n
     → (n ≡ 0) × ((answer (row_now t xs before) c).out ≡ 0 ∷ 0 ∷ drop head_width c.out)
 
 -- A watermark that is done retracts nothing and adds the live visits that it closes, in their order. This holds on any row at all.

@@ -4,7 +4,7 @@ use Rattle.std.specs.List.{ContainsAt as Has, AllByRecursion as All}
 use Rattle.visit.specs.declared.Reading.{Reading}
 use Rattle.visit.specs.declared.Terms.{Terms}
 use Rattle.visit.specs.declared.Visit.{Visit}
-use Rattle.command.specs.declared.Command.TheVariants.{Reading as A-reading}
+use Rattle.command.specs.declared.Command.TheVariants.{Reading as AReading}
 use Rattle.command.specs.declared.Refusal.TheVariants.{Duplicate}
 use Rattle.command.specs.declared.Reply.TheVariants.{Refused}
 use Rattle.command.specs.Numbers.{reply_number}
@@ -20,7 +20,7 @@ use Rattle.guarantees.specs.Faithful.{call_faults, withheld}
 
 -- A call hands over a reading, and nothing is wrong with the call itself: terms and numbers are within bounds, and `out` has room.
 pub record HandsOver (t : Terms) (e : Reading) (c : Call) : Type 0 where
-  pub reading : command_in c.command ≡ A-reading e
+  pub reading : command_in c.command ≡ AReading e
   pub fine : All (λ f. f ≡ None) (call_faults t c)
 
 -- Any call does that whose command is the kind 0 and the reading's four numbers, if only `out` has room.

@@ -10,7 +10,7 @@ use Rattle.visit.specs.declared.Visit.{Visit}
 use Rattle.visit.specs.Readings.{reading_before, same_reading, too_late}
 use Rattle.visit.specs.Visits.{closed, joins, single}
 use Rattle.command.specs.declared.Command.{Command}
-use Rattle.command.specs.declared.Command.TheVariants.{Reading as A-reading, Watermark}
+use Rattle.command.specs.declared.Command.TheVariants.{Reading as AReading, Watermark}
 use Rattle.model.specs.Cards.{CardsApart, of_cards}
 use Rattle.model.specs.Reference.{Reference, after, closed_of, empty, step}
 use Rattle.model.specs.Sessions.{contains, insert_reading, prepend, visits}
@@ -120,7 +120,7 @@ closed_of_part t p k s =
 -- A command of these cards does to the part what it does to the whole; another does nothing to it.
 step_by : (t : Terms) (p : ℕ → Bool) (k : Reference) (c : Command) → SortedReadings t k.readings → of_cards p c ≡ true
     → step t (part_by p k) c ≡ part_by p (step t k c)
-step_by t p k (A-reading e) s h =
+step_by t p k (AReading e) s h =
     let q = contains_by t p e k.readings h in
     let i = insert_by t p e k.readings s h in
     split (too_late t k.watermark e) (λ o. simp o)
@@ -128,7 +128,7 @@ step_by t p k (A-reading e) s h =
 step_by t p k (Watermark m) s h = split (ltb m k.watermark) (λ o. simp o) (λ o. simp o)
 
 step_other : (t : Terms) (p : ℕ → Bool) (k : Reference) (c : Command) → of_cards p c ≡ false → part_by p (step t k c) ≡ part_by p k
-step_other t p k (A-reading e) h =
+step_other t p k (AReading e) h =
     let i = insert_other t p e k.readings h in
     split (too_late t k.watermark e) (λ o. simp o)
     (λ o. split (contains t e k.readings) (λ d. simp (o, d)) (λ d. simp (o, d, i)))

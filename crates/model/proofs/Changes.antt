@@ -11,7 +11,7 @@ use Rattle.visit.specs.declared.Terms.{Terms}
 use Rattle.visit.specs.declared.Visit.{Visit}
 use Rattle.visit.specs.Readings.{too_late}
 use Rattle.visit.specs.Visits.{closed, merged, near, same_visit, single}
-use Rattle.command.specs.declared.Command.TheVariants.{Reading as A-reading}
+use Rattle.command.specs.declared.Command.TheVariants.{Reading as AReading}
 use Rattle.command.specs.Outcomes.{changed}
 use Rattle.model.specs.Few.{FewChanges, OnTime, OnlyWhatIsMet, WatermarkAdds, became, merged_with, met, near_ones}
 use Rattle.model.specs.Reference.{Reference, after, closed_of, empty, outcome}
@@ -143,7 +143,7 @@ merging_changes t m e vs p =
     (All-weaker (λ v. v.count < z.count) (Absent t (z ∷ [])) (fewer_absent t z) ms n) (absent_fewer t z ms n, tt)
 
 -- A reading that is taken in changes what its merging changes.
-taken_in : (t : Terms) (k : Reference) (e : Reading) (gone new : List Visit) → outcome t k (A-reading e) ≡ changed gone new
+taken_in : (t : Terms) (k : Reference) (e : Reading) (gone new : List Visit) → outcome t k (AReading e) ≡ changed gone new
     → changes t (closed_of t k) (closed_visits t k.watermark (visits t (insert_reading t e k.readings))) ≡ changed gone new
 taken_in t k e gone new h =
     split (too_late t k.watermark e)

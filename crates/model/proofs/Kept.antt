@@ -10,7 +10,7 @@ use Rattle.visit.specs.declared.Terms.{Terms}
 use Rattle.visit.specs.declared.Visit.{Visit}
 use Rattle.visit.specs.Readings.{gap_of, kept, same_reading, too_late}
 use Rattle.visit.specs.Visits.{expired, grown, joins, live, merged, near, same_visit, single, visit_before}
-use Rattle.command.specs.declared.Command.TheVariants.{Reading as A-reading}
+use Rattle.command.specs.declared.Command.TheVariants.{Reading as AReading}
 use Rattle.command.specs.declared.Refusal.TheVariants.{Duplicate}
 use Rattle.command.specs.Outcomes.{refused}
 use Rattle.model.specs.Kept.{Holds, LittleKept, MayChange, NeedsAll, NothingInVain, recent}
@@ -97,7 +97,7 @@ kept_again t m (e ∷ es) =
     ))
     (λ o. simp o ih)
 
-refused_again : (t : Terms) (s : Store) (e : Reading) → (too_late t s.watermark e ≡ false) × (contains t e s.seen ≡ true) → store_outcome t s (A-reading e) ≡ refused (Duplicate e.time)
+refused_again : (t : Terms) (s : Store) (e : Reading) → (too_late t s.watermark e ≡ false) × (contains t e s.seen ≡ true) → store_outcome t s (AReading e) ≡ refused (Duplicate e.time)
 refused_again t s e h = simp (h.0, h.1)
 
 -- A visit that is near to one that is merged in is there no more: what is made has more readings.
@@ -196,7 +196,7 @@ unfolding near live expired
 reaching_near t m v n h l = grind (arith, nat_tests)
 
 reading_live : (t : Terms) (s : Store) (e : Reading) → too_late t s.watermark e ≡ false → contains t e s.seen ≡ false
-    → (store_step t s (A-reading e)).live ≡ live_only t s.watermark (merge_in t (single e) s.live)
+    → (store_step t s (AReading e)).live ≡ live_only t s.watermark (merge_in t (single e) s.live)
 reading_live t s e a b = simp (a, b)
 
 may_change : (t : Terms) (s : Store) → Apart t s.live → (v : Visit) → (v.from ≤ v.to) × (live t s.watermark v ≡ true) × (some (same_visit t v) s.live ≡ true) → MayChange t s v
@@ -228,7 +228,7 @@ image_needs t k s =
     record {
       readings =
           All-weaker (λ e. (too_late t k.watermark e ≡ false) × (contains t e (kept_only t k.watermark k.readings) ≡ true))
-          (λ e. store_outcome t (image t k) (A-reading e) ≡ refused (Duplicate e.time))
+          (λ e. store_outcome t (image t k) (AReading e) ≡ refused (Duplicate e.time))
           (refused_again t (image t k)) (kept_only t k.watermark k.readings) (kept_again t k.watermark k.readings);
       visits =
           All-weaker (λ v. (v.from ≤ v.to) × ((live t k.watermark v ≡ true) × (some (same_visit t v) vs ≡ true))) (MayChange t (image t k))

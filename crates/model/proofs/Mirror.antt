@@ -8,7 +8,7 @@ use Rattle.visit.specs.declared.Visit.{Visit}
 use Rattle.visit.specs.Readings.{too_late}
 use Rattle.visit.specs.Visits.{closed, live, same_visit, single}
 use Rattle.command.specs.declared.Command.{Command}
-use Rattle.command.specs.declared.Command.TheVariants.{Reading as A-reading, Watermark}
+use Rattle.command.specs.declared.Command.TheVariants.{Reading as AReading, Watermark}
 use Rattle.command.specs.declared.Refusal.{Refusal}
 use Rattle.command.specs.Bounds.{command_fault, terms_fault}
 use Rattle.command.specs.Outcomes.{Outcome}
@@ -54,7 +54,7 @@ live_insert t m e xs s h =
 
 -- Each kind of command: the store drafts what the reference plans.
 pub draft_reading : (t : Terms) (k : Reference) (ls : List Line) → SortedReadings t k.readings → (e : Reading)
-    → draft t (mirror t k ls) (A-reading e) ≡ drafted_by t k.watermark (plan t k (A-reading e))
+    → draft t (mirror t k ls) (AReading e) ≡ drafted_by t k.watermark (plan t k (AReading e))
 draft_reading t k ls s e =
     split (too_late t k.watermark e)
     (λ l. simp l)
@@ -73,7 +73,7 @@ draft_watermark t k ls m = split (ltb m k.watermark) (λ o. simp o) (λ o. simp 
 
 pub draft_mirror : (t : Terms) (k : Reference) (ls : List Line) → SortedReadings t k.readings → (c : Command)
     → draft t (mirror t k ls) c ≡ drafted_by t k.watermark (plan t k c)
-draft_mirror t k ls s (A-reading e) = draft_reading t k ls s e
+draft_mirror t k ls s (AReading e) = draft_reading t k ls s e
 draft_mirror t k ls s (Watermark m) = draft_watermark t k ls m
 
 -- Each kind of command goes on from a reference in order.
@@ -84,7 +84,7 @@ dead_insert t m e xs s h v d =
     ∙ ap (λ (vs : List Visit). some (same_visit t v) vs) (sym (insert_merges t e xs s))
 
 pub plan_goes_on : (t : Terms) (k : Reference) → SortedReadings t k.readings → (c : Command) → GoesOnBy t k (plan t k c)
-plan_goes_on t k s (A-reading e) =
+plan_goes_on t k s (AReading e) =
     split (too_late t k.watermark e)
     (λ l. simp l tt)
     (λ l. split (contains t e k.readings)

@@ -10,7 +10,7 @@ use Rattle.visit.specs.declared.Visit.{Visit}
 use Rattle.visit.specs.Readings.{gap_of, reading_before, same_reading, too_late}
 use Rattle.visit.specs.Visits.{grown, joins, merged, same_visit, single}
 use Rattle.command.specs.declared.Command.{Command}
-use Rattle.command.specs.declared.Command.TheVariants.{Reading as A-reading, Watermark}
+use Rattle.command.specs.declared.Command.TheVariants.{Reading as AReading, Watermark}
 use Rattle.model.specs.Reference.{Reference, after, empty, step}
 use Rattle.model.specs.Sessions.{contains, insert_reading, prepend, visits}
 use Rattle.model.proofs.Common.{Absent, split}
@@ -143,7 +143,7 @@ insert_sorted t e (x ∷ xs) c s =
 
 -- Every state of the reference is sorted.
 pub step_sorted : (t : Terms) (k : Reference) (c : Command) → SortedReadings t k.readings → SortedReadings t (step t k c).readings
-step_sorted t k (A-reading e) s =
+step_sorted t k (AReading e) s =
     split (too_late t k.watermark e) (λ o. simp o s)
     (λ o. split (contains t e k.readings) (λ q. simp (o, q) s) (λ q. simp (o, q) (insert_sorted t e k.readings q s)))
 step_sorted t k (Watermark m) s = split (ltb m k.watermark) (λ o. simp o s) (λ o. simp o s)

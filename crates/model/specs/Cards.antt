@@ -2,12 +2,12 @@
 use Rattle.std.specs.Prelude.{◌≡◌, ℕ, Bool, true, List, filter}
 use Rattle.visit.specs.declared.Terms.{Terms}
 use Rattle.command.specs.declared.Command.{Command}
-use Rattle.command.specs.declared.Command.TheVariants.{Reading as A-reading, Watermark}
+use Rattle.command.specs.declared.Command.TheVariants.{Reading as AReading, Watermark}
 use Rattle.model.specs.Reference.{after, closed_of, empty}
 
 -- The commands that some cards have to do with: their readings, and every watermark.
 abbrev pub of_cards : (ℕ → Bool) → Command → Bool
-of_cards p (A-reading e) = p e.card
+of_cards p (AReading e) = p e.card
 of_cards p (Watermark m) = true
 
 -- The closed visits of some cards come of their own readings and the watermarks.

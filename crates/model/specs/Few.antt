@@ -5,7 +5,7 @@ use Rattle.visit.specs.declared.Terms.{Terms}
 use Rattle.visit.specs.declared.Visit.{Visit}
 use Rattle.visit.specs.Visits.{merged, near, single}
 use Rattle.command.specs.declared.Command.{Command}
-use Rattle.command.specs.declared.Command.TheVariants.{Reading as A-reading, Watermark}
+use Rattle.command.specs.declared.Command.TheVariants.{Reading as AReading, Watermark}
 use Rattle.command.specs.Outcomes.{changed}
 use Rattle.model.specs.Reference.{Reference, after, empty, outcome}
 use Rattle.model.specs.Sessions.{closed_visits, visits}
@@ -29,7 +29,7 @@ became t k e = merged_with (single e) (met t k e)
 abbrev pub OnlyWhatIsMet : Type 0
 OnlyWhatIsMet =
     (t : Terms) (cs : List Command) (e : Reading) (gone new : List Visit)
-    → outcome t (after t empty cs) (A-reading e) ≡ changed gone new
+    → outcome t (after t empty cs) (AReading e) ≡ changed gone new
     → (gone ≡ closed_visits t (after t empty cs).watermark (met t (after t empty cs) e))
     × (new ≡ closed_visits t (after t empty cs).watermark (became t (after t empty cs) e ∷ []))
 
@@ -37,13 +37,13 @@ OnlyWhatIsMet =
 abbrev pub FewChanges : Type 0
 FewChanges =
     (t : Terms) (cs : List Command) (e : Reading) (gone new : List Visit)
-    → outcome t (after t empty cs) (A-reading e) ≡ changed gone new → (length gone ≤ 2) × (length new ≤ 1)
+    → outcome t (after t empty cs) (AReading e) ≡ changed gone new → (length gone ≤ 2) × (length new ≤ 1)
 
 -- A reading that is not behind the watermark changes no closed visit and adds none.
 abbrev pub OnTime : Type 0
 OnTime =
     (t : Terms) (cs : List Command) (e : Reading) (gone new : List Visit)
-    → (after t empty cs).watermark ≤ e.time → outcome t (after t empty cs) (A-reading e) ≡ changed gone new → (gone ≡ []) × (new ≡ [])
+    → (after t empty cs).watermark ≤ e.time → outcome t (after t empty cs) (AReading e) ≡ changed gone new → (gone ≡ []) × (new ≡ [])
 
 -- A watermark retracts nothing.
 abbrev pub WatermarkAdds : Type 0

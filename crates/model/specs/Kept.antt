@@ -7,7 +7,7 @@ use Rattle.visit.specs.declared.Visit.{Visit}
 use Rattle.visit.specs.Readings.{gap_of, too_late}
 use Rattle.visit.specs.Visits.{same_visit}
 use Rattle.command.specs.declared.Command.{Command}
-use Rattle.command.specs.declared.Command.TheVariants.{Reading as A-reading}
+use Rattle.command.specs.declared.Command.TheVariants.{Reading as AReading}
 use Rattle.command.specs.declared.Refusal.TheVariants.{Duplicate}
 use Rattle.command.specs.Outcomes.{refused}
 use Rattle.model.specs.Reference.{Reference, after, empty}
@@ -38,14 +38,14 @@ pub record ChangesVisit (t : Terms) (s : Store) (v : Visit) (e : Reading) : Type
   pub amount : e.amount ≡ 0
   pub timely : too_late t s.watermark e ≡ false
   pub unseen : contains t e s.seen ≡ false
-  pub changes : some (same_visit t v) (store_step t s (A-reading e)).live ≡ false
+  pub changes : some (same_visit t v) (store_step t s (AReading e)).live ≡ false
 
 abbrev pub MayChange : Terms → Store → Visit → Type 0
 MayChange t s v = (e : Reading) × ChangesVisit t s v e
 
 -- Each kept reading, coming again, is refused as a duplicate; each live visit may still change.
 pub record NeedsAll (t : Terms) (s : Store) : Type 0 where
-  pub readings : All (λ e. store_outcome t s (A-reading e) ≡ refused (Duplicate e.time)) s.seen
+  pub readings : All (λ e. store_outcome t s (AReading e) ≡ refused (Duplicate e.time)) s.seen
   pub visits : All (MayChange t s) s.live
 
 abbrev pub NothingInVain : Type 0

@@ -6,7 +6,7 @@ use Rattle.visit.specs.declared.Terms.{Terms}
 use Rattle.visit.specs.declared.Visit.{Visit}
 use Rattle.visit.specs.Readings.{too_late}
 use Rattle.command.specs.declared.Command.{Command}
-use Rattle.command.specs.declared.Command.TheVariants.{Reading as A-reading, Watermark}
+use Rattle.command.specs.declared.Command.TheVariants.{Reading as AReading, Watermark}
 use Rattle.command.specs.declared.Refusal.{Refusal}
 use Rattle.command.specs.declared.Refusal.TheVariants.{TooLate, Duplicate, Backwards}
 use Rattle.command.specs.Bounds.{command_fault, terms_fault}
@@ -24,7 +24,7 @@ empty = record { readings = []; watermark = 0 }
 
 -- What a command comes to: the next state, or a refusal.
 abbrev pub plan : Terms → Reference → Command → Result Reference Refusal
-plan t k (A-reading e) =
+plan t k (AReading e) =
     cond (too_late t k.watermark e) (Err (TooLate e.time))
     (cond (contains t e k.readings) (Err (Duplicate e.time))
     (Ok (record { readings = insert_reading t e k.readings; watermark = k.watermark })))

@@ -7,7 +7,7 @@ use Rattle.visit.specs.declared.Visit.{Visit}
 use Rattle.visit.specs.Readings.{kept, too_late}
 use Rattle.visit.specs.Visits.{live, merged, near, single, visit_before}
 use Rattle.command.specs.declared.Command.{Command}
-use Rattle.command.specs.declared.Command.TheVariants.{Reading as A-reading, Watermark}
+use Rattle.command.specs.declared.Command.TheVariants.{Reading as AReading, Watermark}
 use Rattle.command.specs.declared.Refusal.{Refusal}
 use Rattle.command.specs.declared.Refusal.TheVariants.{TooLate, Duplicate, Backwards}
 use Rattle.command.specs.Outcomes.{Outcome, refused}
@@ -42,7 +42,7 @@ pub record Draft : Type 0 where
   pub watermark : ℕ
 
 abbrev pub draft : Terms → Store → Command → Result Draft Refusal
-draft t s (A-reading e) =
+draft t s (AReading e) =
     cond (too_late t s.watermark e) (Err (TooLate e.time))
     (cond (contains t e s.seen) (Err (Duplicate e.time))
     (Ok (record { live = merge_in t (single e) s.live; seen = insert_reading t e s.seen; watermark = s.watermark })))

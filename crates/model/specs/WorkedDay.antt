@@ -4,7 +4,7 @@ use Rattle.visit.specs.declared.Line.{Line}
 use Rattle.visit.specs.declared.Terms.{Terms}
 use Rattle.visit.specs.declared.Visit.{Visit}
 use Rattle.command.specs.declared.Command.{Command}
-use Rattle.command.specs.declared.Command.TheVariants.{Reading as A-reading, Watermark}
+use Rattle.command.specs.declared.Command.TheVariants.{Reading as AReading, Watermark}
 use Rattle.command.specs.declared.Refusal.TheVariants.{TooLate, Duplicate, Backwards}
 use Rattle.command.specs.Outcomes.{Outcome, changed, refused}
 use Rattle.model.specs.Store.{Store, empty_store, store_after, store_outcome, store_outcomes, store_step}
@@ -26,7 +26,7 @@ worked_terms = record { gap = 10; lateness = 30; day = 100 }
 
 -- Card, time, serial and amount of a reading; card, first and last time, count and sum of a visit.
 abbrev pub reading : ℕ → ℕ → ℕ → ℕ → Command
-reading c time serial amount = A-reading (record { card = c; time = time; serial = serial; amount = amount })
+reading c time serial amount = AReading (record { card = c; time = time; serial = serial; amount = amount })
 
 abbrev pub visit : ℕ → ℕ → ℕ → ℕ → ℕ → Visit
 visit c from to count sum = record { card = c; from = from; to = to; count = count; sum = sum }

@@ -8,7 +8,7 @@ mod state;
 mod visits;
 
 ghost use Rattle.command.specs.Outcomes.{outcome_of};
-ghost use Rattle.command.specs.declared.Command.TheVariants.{Reading as A-reading, Watermark};
+ghost use Rattle.command.specs.declared.Command.TheVariants.{Reading as AReading, Watermark};
 ghost use Rattle.model.specs.Sessions.{changes as Changed};
 ghost use Rattle.model.specs.Reference.{closed_of, empty, ledger_of, outcome_by, plan as Plan, state_by};
 ghost use Rattle.reference.specs.State.{Under, model_of, most_readings, plan_of, planned};
@@ -122,7 +122,7 @@ impl Reference {
     ) -> Result<Result<Reference, Refusal>, AllocError>
         requires { e.amount < 2 ^ 32 }
         ensures terms { IfOk result (λ p. Under self.now.terms p) }
-        ensures plan { IfOk result (λ p. planned p ≡ Plan self.now.terms (model_of self.now) (A-reading e)) }
+        ensures plan { IfOk result (λ p. planned p ≡ Plan self.now.terms (model_of self.now) (AReading e)) }
     {
         if e.too_late(self.terms, self.watermark) {
             return Ok(Err(Refusal::TooLate(e.time)));

@@ -12,7 +12,7 @@ use Rattle.visit.specs.declared.Terms.{Terms}
 use Rattle.visit.specs.declared.Visit.{Visit}
 use Rattle.visit.specs.Visits.{closed, merged, near, same_visit, single, visit_before}
 use Rattle.command.specs.declared.Command.{Command}
-use Rattle.command.specs.declared.Command.TheVariants.{Reading as A-reading, Watermark}
+use Rattle.command.specs.declared.Command.TheVariants.{Reading as AReading, Watermark}
 use Rattle.command.specs.declared.Refusal.TheVariants.{BadCommand, Full}
 use Rattle.command.specs.Bounds.{command_fault, fields, first_over as first_field, time_limit, word_limit}
 use Rattle.command.specs.Outcomes.{Outcome, changed, refused}
@@ -118,11 +118,11 @@ module _ (h : Header) (s : Store) (w : Within h s) where
       let all = All-weaker (λ v. first_over 0 visit_limits (visit_cells v) ≡ None) (λ v. v.sum ≤ 2 ^ 52) (λ v e. (small_visit v e).1) s.live w.live in
       omega (arith, sum_by_le (λ (v : Visit). v.sum) (2 ^ 52) s.live all, w.visits, w.counts.visits)
 
-  pub reading_allowed : (cap : Capacity) (e : Reading) → command_fault (A-reading e) ≡ None → room_fault cap h s (A-reading e) ≡ None → Performable h s (A-reading e)
+  pub reading_allowed : (cap : Capacity) (e : Reading) → command_fault (AReading e) ≡ None → room_fault cap h s (AReading e) ≡ None → Performable h s (AReading e)
   reading_allowed cap e bounds room =
       let t = h.terms in
       let vs = s.live in
-      let card = passes (ltb e.card word_limit) _ 1 (mapped_none BadCommand (first_field 1 (fields (A-reading e))) bounds) in
+      let card = passes (ltb e.card word_limit) _ 1 (mapped_none BadCommand (first_field 1 (fields (AReading e))) bounds) in
       let time = passes (ltb e.time time_limit) _ 2 card.1 in
       let serial = passes (ltb e.serial word_limit) _ 3 time.1 in
       let amount = ltb-true e.amount word_limit (passes (ltb e.amount word_limit) None 4 serial.1).0 in

@@ -7,7 +7,7 @@ use Rattle.visit.specs.declared.Terms.{Terms}
 use Rattle.visit.specs.declared.Visit.{Visit}
 use Rattle.visit.specs.Readings.{reading_before}
 use Rattle.visit.specs.Visits.{single}
-use Rattle.command.specs.declared.Command.TheVariants.{Reading as A-reading}
+use Rattle.command.specs.declared.Command.TheVariants.{Reading as AReading}
 use Rattle.model.specs.Sessions.{at_place, insert_reading}
 use Rattle.model.specs.Store.{merge_in}
 use Rattle.model.proofs.Common.{split}
@@ -92,7 +92,7 @@ header_with h n k = record { terms = h.terms; watermark = h.watermark; visits = 
 pub drafted_reading : (h : Header) (e : Reading) (p q r : Parts)
     → q ≡ with_visits (visits_held (max h.visits (length (merge_in h.terms (single e) (store_of h p).live))) (merge_in h.terms (single e) (store_of h p).live) p.visits) p
     → r ≡ with_readings (readings_held (h.readings + 1) (insert_reading h.terms e (readings_in h.readings q.readings)) q.readings) q
-    → r ≡ drafted_parts h (draft_of h.terms (store_of h p) (A-reading e)) p
+    → r ≡ drafted_parts h (draft_of h.terms (store_of h p) (AReading e)) p
 drafted_reading h e p q r merged put =
     let es = insert_reading h.terms e (readings_in h.readings p.readings) in
     let many : h.readings + 1 ≡ max h.readings (length es) =
@@ -101,7 +101,7 @@ drafted_reading h e p q r merged put =
     ∙ ap (λ k. with_readings (readings_held k es p.readings) (with_visits (visits_held (max h.visits (length (merge_in h.terms (single e) (store_of h p).live))) (merge_in h.terms (single e) (store_of h p).live) p.visits) p)) many
 
 pub drafted_counts : (h : Header) (e : Reading) (p : Parts) (n : ℕ) → n ≡ length (merge_in h.terms (single e) (store_of h p).live)
-    → header_with h n (h.readings + 1) ≡ drafted_header h (draft_of h.terms (store_of h p) (A-reading e))
+    → header_with h n (h.readings + 1) ≡ drafted_header h (draft_of h.terms (store_of h p) (AReading e))
 drafted_counts h e p n many =
     let kept : h.readings + 1 ≡ length (insert_reading h.terms e (store_of h p).seen) =
     omega (arith, length_inserted_reading h.terms e (readings_in h.readings p.readings), length_rows reading_width reading_made h.readings p.readings) in

@@ -6,7 +6,7 @@ use Rattle.std.proofs.lemmas.Bool.{ltb-false}
 use Rattle.visit.specs.declared.Terms.{Terms}
 use Rattle.visit.specs.Readings.{too_late}
 use Rattle.command.specs.declared.Command.{Command}
-use Rattle.command.specs.declared.Command.TheVariants.{Reading as A-reading, Watermark}
+use Rattle.command.specs.declared.Command.TheVariants.{Reading as AReading, Watermark}
 use Rattle.command.specs.declared.Refusal.{Refusal}
 use Rattle.command.specs.declared.Refusal.TheVariants.{BadCommand, BadStore, Backwards, Duplicate, ShortOut, TooLate}
 use Rattle.command.specs.declared.Reply.TheVariants.{Done}
@@ -52,9 +52,9 @@ all_front P [] ys a = tt
 all_front P (x ∷ xs) ys a = (a.0, all_front P xs ys a.1)
 
 pub draft_stands : (t : Terms) (s : Store) (c : Command) → refusal_of (draft t s c) ≡ None → draft t s c ≡ Ok (draft_of t s c)
-draft_stands t s (A-reading e) none =
+draft_stands t s (AReading e) none =
     let late = spared_too (too_late t s.watermark e) (TooLate e.time) _ none in
-    let twice = spared_too (contains t e s.seen) (Duplicate e.time) (Ok (draft_of t s (A-reading e))) late.1 in
+    let twice = spared_too (contains t e s.seen) (Duplicate e.time) (Ok (draft_of t s (AReading e))) late.1 in
     rw (late.0, twice.0)
 draft_stands t s (Watermark m) none =
     let back = spared_too (ltb m s.watermark) (Backwards m) (Ok (draft_of t s (Watermark m))) none in
@@ -62,7 +62,7 @@ draft_stands t s (Watermark m) none =
 
 pub allowed_for : (cap : Capacity) (h : Header) (s : Store) → Within h s → s.watermark ≡ h.watermark → (c : Command) → command_fault c ≡ None → room_fault cap h s c ≡ None
     → refusal_of (draft h.terms s c) ≡ None → Performable h s c
-allowed_for cap h s w same (A-reading e) bounds room rules = reading_allowed h s w cap e bounds room
+allowed_for cap h s w same (AReading e) bounds room rules = reading_allowed h s w cap e bounds room
 allowed_for cap h s w same (Watermark m) bounds room rules =
     let back = spared_too (ltb m s.watermark) (Backwards m) (Ok (draft_of h.terms s (Watermark m))) rules in
     watermark_allowed h s w cap m room (omega (arith, ltb-false _ _ back.0)) same

@@ -5,7 +5,7 @@ use Rattle.std.specs.List.{repeat}
 use Rattle.visit.specs.declared.Reading.{Reading}
 use Rattle.visit.specs.declared.Terms.{Terms}
 use Rattle.command.specs.declared.Command.{Command}
-use Rattle.command.specs.declared.Command.TheVariants.{Reading as A-reading, Watermark}
+use Rattle.command.specs.declared.Command.TheVariants.{Reading as AReading, Watermark}
 use Rattle.command.specs.declared.Refusal.{Refusal}
 use Rattle.command.specs.declared.Refusal.TheVariants.{BadStore, BadTerms, BadCommand, Full, ShortOut}
 use Rattle.command.specs.Bounds.{command_fault, terms_fault, time_limit}
@@ -52,7 +52,7 @@ abbrev pub known_kind : ℕ → Bool
 known_kind k = k == 0 || k == 1
 
 abbrev pub command_of : ℕ → List ℕ → Command
-command_of k xs = cond (k == 0) (A-reading (reading_made xs)) (Watermark (slice_index xs 0))
+command_of k xs = cond (k == 0) (AReading (reading_made xs)) (Watermark (slice_index xs 0))
 
 abbrev pub command_in : List ℕ → Command
 command_in cs = command_of (slice_index cs 0) (drop 1 cs)
@@ -69,7 +69,7 @@ out_fault n = cond (nat_lt n out_width) (Some (ShortOut n)) None
 
 -- 7: what a command might need is not free. A reading needs a visit, a reading and a line; a watermark a line for each visit that is not closed.
 abbrev pub room_fault : Capacity → Header → Store → Command → Option Refusal
-room_fault cap h s (A-reading e) =
+room_fault cap h s (AReading e) =
     cond (nat_lt h.visits (min cap.visits visits_room))
     (cond (nat_lt h.readings (min cap.readings readings_room)) (cond (nat_lt (h.lines + h.visits) lines_room) None (Some (Full 6))) (Some (Full 5)))
     (Some (Full 4))

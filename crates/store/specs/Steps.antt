@@ -5,7 +5,7 @@ use Rattle.visit.specs.declared.Terms.{Terms}
 use Rattle.visit.specs.declared.Visit.{Visit}
 use Rattle.visit.specs.Visits.{single}
 use Rattle.command.specs.declared.Command.{Command}
-use Rattle.command.specs.declared.Command.TheVariants.{Reading as A-reading, Watermark}
+use Rattle.command.specs.declared.Command.TheVariants.{Reading as AReading, Watermark}
 use Rattle.command.specs.Outcomes.{Outcome}
 use Rattle.model.specs.Sessions.{changes, difference, insert_reading}
 use Rattle.model.specs.Store.{Draft, Store, closed_after, closed_before, kept_only, live_only, merge_in, posted}
@@ -20,7 +20,7 @@ use Rattle.store.specs.Parts.{Parts}
 
 -- What a command that is not refused drafts.
 abbrev pub draft_of : Terms → Store → Command → Draft
-draft_of t s (A-reading e) = record { live = merge_in t (single e) s.live; seen = insert_reading t e s.seen; watermark = s.watermark }
+draft_of t s (AReading e) = record { live = merge_in t (single e) s.live; seen = insert_reading t e s.seen; watermark = s.watermark }
 draft_of t s (Watermark m) = record { live = s.live; seen = s.seen; watermark = m }
 
 -- What it changes.
@@ -35,7 +35,7 @@ new_of t s d = difference t (closed_after t d) (closed_before t s)
 
 -- What a command needs of the store, so that it can be drafted: room, and sums that fit in 64 bits; a watermark does not go back.
 abbrev pub Draftable : Header → Store → Command → Type 0
-Draftable h s (A-reading e) =
+Draftable h s (AReading e) =
     (h.visits < visits_room) × (h.readings < readings_room) × (counts s.live + 1 < 2 ^ 64) × (sums s.live + e.amount < 2 ^ 64)
 Draftable h s (Watermark m) = h.watermark ≤ m
 

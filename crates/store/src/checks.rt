@@ -1,7 +1,7 @@
 // Why a command is refused: each check hands on its value or leaves with the refusal, and nothing is changed.
 ghost use Rattle.std.specs.Prelude.{◌≡◌, ◌-◌, ◌*◌, ◌≤◌, true, length, None, Ok};
 ghost use Rattle.command.specs.declared.Refusal.TheVariants.{BadStore};
-ghost use Rattle.model.specs.Store.{draft as Draft-of};
+ghost use Rattle.model.specs.Store.{draft as DraftOf};
 ghost use Rattle.rows.specs.Limits.{first_over};
 ghost use Rattle.std.specs.List.{between, repeat};
 ghost use Rattle.std.specs.Option.{option_map};
@@ -156,7 +156,7 @@ pub fn room(capacity: Capacity, header: Header, store: &[u64], command: Command)
 fn rule_fault(header: Header, store: &[u64], command: Command) -> Option<Refusal>
     requires size { store_size ≤ length store.now }
     requires counts { Counted header }
-    ensures { result ≡ refusal_of (Draft-of header.terms (store_of header (parts store.now)) command) }
+    ensures { result ≡ refusal_of (DraftOf header.terms (store_of header (parts store.now)) command) }
 {
     match command {
         Command::Reading(reading) => {

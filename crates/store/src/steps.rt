@@ -2,8 +2,8 @@
 ghost use Rattle.std.specs.Prelude.{◌≡◌, ◌+◌, ◌^◌, ◌<◌, ◌≤◌, length};
 ghost use Rattle.changes.specs.Out.{outcome_count, outcome_row, overlay};
 ghost use Rattle.changes.specs.Room.{out_width};
-ghost use Rattle.command.specs.declared.Command.TheVariants.{Reading as A-reading, Watermark};
-ghost use Rattle.ledger.specs.Fits.{Fits, sums as added-sums};
+ghost use Rattle.command.specs.declared.Command.TheVariants.{Reading as AReading, Watermark};
+ghost use Rattle.ledger.specs.Fits.{Fits, sums as added_sums};
 ghost use Rattle.ledger.specs.Out.{gone_in, new_count, new_in, out_end, out_head};
 ghost use Rattle.ledger.specs.Table.{lines_in};
 ghost use Rattle.live.specs.Tables.{counts, sums, visits_in};
@@ -16,7 +16,7 @@ ghost use Rattle.store.specs.Steps.{changes_of, draft_of, drafted_header, drafte
 use crate::header::Header;
 use crate::layout::{READINGS_AT, VISITS_AT};
 use crate::tables::{
-    set_aside, expire_readings, expire_visits, insert_reading, place, post, put_header,
+    expire_readings, expire_visits, insert_reading, place, post, put_header, set_aside,
 };
 use changes::reading::by_reading;
 use changes::watermark::by_watermark;
@@ -43,10 +43,10 @@ pub fn draft_reading(
     requires count { counts (visits_in header.visits (parts store.old).visits) + 1 < 2 ^ 64 }
     requires sum { sums (visits_in header.visits (parts store.old).visits) + reading.amount < 2 ^ 64 }
     requires out { out_width ≤ length out.old }
-    ensures header { result.header ≡ drafted_header header (draft_of header.terms (store_of header (parts store.old)) (A-reading reading)) }
-    ensures changed { result.changed ≡ outcome_count (changes_of header.terms (store_of header (parts store.old)) (draft_of header.terms (store_of header (parts store.old)) (A-reading reading))) }
-    ensures parts { parts store.new ≡ drafted_parts header (draft_of header.terms (store_of header (parts store.old)) (A-reading reading)) (parts store.old) }
-    ensures out { out.new ≡ overlay (outcome_row (changes_of header.terms (store_of header (parts store.old)) (draft_of header.terms (store_of header (parts store.old)) (A-reading reading)))) out.old }
+    ensures header { result.header ≡ drafted_header header (draft_of header.terms (store_of header (parts store.old)) (AReading reading)) }
+    ensures changed { result.changed ≡ outcome_count (changes_of header.terms (store_of header (parts store.old)) (draft_of header.terms (store_of header (parts store.old)) (AReading reading))) }
+    ensures parts { parts store.new ≡ drafted_parts header (draft_of header.terms (store_of header (parts store.old)) (AReading reading)) (parts store.old) }
+    ensures out { out.new ≡ overlay (outcome_row (changes_of header.terms (store_of header (parts store.old)) (draft_of header.terms (store_of header (parts store.old)) (AReading reading)))) out.old }
 {
     let n = header.visits;
     let placed = set_aside(store, n, reading.single(), header.terms);
@@ -106,7 +106,7 @@ pub fn finish(store: &mut [u64], header: Header, out: &[u64])
     requires counts { out_head ≤ length out.now }
     requires within { out_end out.now ≤ length out.now }
     requires lines { header.lines + new_count out.now ≤ lines_room }
-    requires fits { Fits (new_count out.now) (added-sums (new_in out.now)) (lines_in header.lines (parts store.old).lines) }
+    requires fits { Fits (new_count out.now) (added_sums (new_in out.now)) (lines_in header.lines (parts store.old).lines) }
     ensures { parts store.new ≡ finished_parts header (gone_in out.now) (new_in out.now) (parts store.old) }
 {
     let lines = post(store, header.lines, out, header.terms);

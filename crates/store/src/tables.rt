@@ -1,6 +1,6 @@
 // The parts of the store, each lent on in turn to the crate whose table it is.
 ghost use Rattle.std.specs.Prelude.{◌≡◌, ◌+◌, ◌*◌, ◌^◌, ◌<◌, ◌≤◌, max, ◌++◌, length, take};
-ghost use Rattle.ledger.specs.Fits.{Fits, sums as added-sums};
+ghost use Rattle.ledger.specs.Fits.{Fits, sums as added_sums};
 ghost use Rattle.ledger.specs.Out.{gone_in, new_count, new_in, out_end, out_head};
 ghost use Rattle.ledger.specs.Table.{lines_held, lines_in};
 ghost use Rattle.live.specs.Tables.{counts, sums, visits_held, visits_in};
@@ -54,7 +54,7 @@ pub fn post(store: &mut [u64], n: usize, out: &[u64], terms: Terms) -> usize
     requires counts { out_head ≤ length out.now }
     requires within { out_end out.now ≤ length out.now }
     requires room { n + new_count out.now ≤ lines_room }
-    requires fits { Fits (new_count out.now) (added-sums (new_in out.now)) (lines_in n (parts store.old).lines) }
+    requires fits { Fits (new_count out.now) (added_sums (new_in out.now)) (lines_in n (parts store.old).lines) }
     ensures many { result ≡ length (posted terms (gone_in out.now) (new_in out.now) (lines_in n (parts store.old).lines)) }
     ensures parts { parts store.new ≡ with_lines (lines_held (max n result) (posted terms (gone_in out.now) (new_in out.now) (lines_in n (parts store.old).lines)) (parts store.old).lines) (parts store.old) }
 {
