@@ -6,3 +6,4 @@ pub mod Aside
 pub mod Together
 pub mod Collecting
 pub mod Wholes
+pub mod Fitting

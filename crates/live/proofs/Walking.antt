@@ -1,8 +1,7 @@
 -- A visit merged in from the front, with the table as it stands on the way.
 use Rattle.std.proofs.Common.{◌≡◌, ℕ, zero, suc, ◌+◌, ◌-◌, ◌*◌, ◌^◌, ◌<◌, ◌≤◌, max, true, false, List, [], ◌∷◌, ◌++◌, length, get_or, take, drop, replicate, sum_by, sym, refl, ap, ◌∙◌, arith}
-use Rattle.std.specs.List.{between, insert, remove}
-use Rattle.std.proofs.lemmas.List.{append_assoc, drop_all, drop_at, drop-drop, drop_more, length-append, length-take-le, replicate-append-replicate, take_at, take_more}
-use Rattle.std.proofs.lemmas.List.Edits.{length-between}
+use Rattle.std.specs.List.{insert, remove}
+use Rattle.std.proofs.lemmas.List.{append_assoc, drop_all, drop_at, drop-drop, drop_more, length-take-le, replicate-append-replicate, take_at, take_more}
 use Rattle.std.proofs.lemmas.List.Sums.{sum_by-append, sum_by-drop_more, sum_by-take-drop}
 use Rattle.visit.specs.declared.Terms.{Terms}
 use Rattle.visit.specs.declared.Visit.{Visit}
@@ -10,6 +9,7 @@ use Rattle.visit.specs.Visits.{merged, near, visit_before}
 use Rattle.model.specs.Store.{merge_in}
 use Rattle.rows.specs.Cells.{closed_up}
 use Rattle.rows.specs.Visits.{visit_made, visit_width}
+use Rattle.rows.proofs.Holding.{removed_rest}
 use Rattle.rows.proofs.Splits.{length_rows}
 use Rattle.live.specs.Tables.{counts, sums, visits_in}
 
@@ -51,14 +51,6 @@ shares_removed f vs i x h e =
     let next : i + 1 ≡ suc i = omega arith in
     omega (arith, ap (λ k. sum_by f (drop k vs)) next, sum_by-append f (take i vs) (drop (suc i) vs), sum_by-take-drop f vs i, sum_by-drop_more f vs i x h, ap f e)
 
--- Behind the rows that have come nearer.
-pub behind_removed : (a e w : ℕ) (xs : List ℕ) → a + w ≤ e → e ≤ length xs → drop (e - w) (closed_up a e w xs) ≡ replicate w 0 ++ drop e xs
-behind_removed a e w xs h k =
-    let front : length (take a xs) ≡ a = length-take-le a xs (omega arith) in
-    let middle : length (between (a + w) e xs) ≡ e - (a + w) = length-between xs (a + w) e k in
-    ap (drop (e - w)) (sym (append_assoc (take a xs) (between (a + w) e xs) (replicate w 0 ++ drop e xs)))
-    ∙ drop_at (take a xs ++ between (a + w) e xs) (replicate w 0 ++ drop e xs) (e - w) (omega (arith, length-append (take a xs) (between (a + w) e xs)))
-
 -- The table on the way: the visit grown so far, how many others are left, and how many of them are passed.
 pub record Absorbing (t : Terms) (start : Visit) (n : ℕ) (xs₀ xs : List ℕ) (v : Visit) (m i : ℕ) : Type 0 where
   pub few : m ≤ n
@@ -86,7 +78,7 @@ absorbing_taken t start n xs₀ xs v m i inv here room x w ys read is-near grows
       rows = ap (λ l. take i l ++ merge_in t w (drop i l)) gone ∙ ap (λ u. take i (remove vs i) ++ merge_in t u (drop i (remove vs i))) grows
           ∙ sym (walk_taken t v x vs i inside read is-near) ∙ inv.rows;
       behind = ap (λ k. drop k ys) back ∙ ap (drop (m * visit_width - visit_width)) stored
-          ∙ behind_removed (i * visit_width) (m * visit_width) visit_width xs (omega arith) room
+          ∙ removed_rest (i * visit_width) (m * visit_width) visit_width xs (omega arith) room
           ∙ ap (λ l. replicate visit_width 0 ++ l) inv.behind
           ∙ sym (append_assoc (replicate visit_width 0) (replicate free 0) rest)
           ∙ ap (λ l. l ++ rest) (replicate-append-replicate visit_width free 0 ∙ ap (λ k. replicate k 0) more);
@@ -107,19 +99,6 @@ absorbing_past t start n xs₀ xs v m i inv here x read far before =
       count = inv.count;
       sum = inv.sum;
     }
-
--- Behind a row that was put in.
-pub behind_inserted : (a e w : ℕ) (xs zs : List ℕ) → length zs ≡ w → a ≤ e → e + w ≤ length xs
-    → drop (e + w) (take a xs ++ (zs ++ (between a e xs ++ drop (e + w) xs))) ≡ drop (e + w) xs
-behind_inserted a e w xs zs q h k =
-    let rest = drop (e + w) xs in
-    let front : length (take a xs) ≡ a = length-take-le a xs (omega arith) in
-    let middle : length (between a e xs) ≡ e - a = length-between xs a e (omega arith) in
-    let long : length (take a xs ++ (zs ++ between a e xs)) ≡ e + w =
-    omega (arith, length-append (take a xs) (zs ++ between a e xs), length-append zs (between a e xs)) in
-    ap (λ l. drop (e + w) (take a xs ++ l)) (sym (append_assoc zs (between a e xs) rest))
-    ∙ ap (drop (e + w)) (sym (append_assoc (take a xs) (zs ++ between a e xs) rest))
-    ∙ drop_at (take a xs ++ (zs ++ between a e xs)) rest (e + w) long
 
 -- One row more takes up cells that were free, or else the next ones.
 pub free_taken : (d o n : ℕ) (xs : List ℕ) → n ≡ o + d

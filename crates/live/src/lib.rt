@@ -6,3 +6,5 @@ pub mod gathering;
 pub mod merging;
 pub mod open;
 pub mod steps;
+#[cfg(test)]
+mod tests;

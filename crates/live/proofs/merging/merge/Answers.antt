@@ -2,10 +2,10 @@ use Rattle.std.proofs.Common.{◌≡◌, ◌+◌, ◌-◌, ◌*◌, ◌≤◌, m
 use Rattle.std.proofs.lemmas.List.{drop-drop}
 use Rattle.model.specs.Store.{merge_in}
 use Rattle.rows.specs.Visits.{visit_cells, visit_laws, visit_made, visit_width}
-use Rattle.rows.proofs.Holding.{holding_is}
+use Rattle.rows.proofs.Holding.{holding_is, inserted_rest}
 use Rattle.rows.proofs.Splits.{length_rows}
 use Rattle.live.specs.Tables.{visits_in}
-use Rattle.live.proofs.Walking.{behind_inserted, free_taken}
+use Rattle.live.proofs.Walking.{free_taken}
 use Rattle.live.proofs.merging.merge.Goals as goal
 
 pub returns : goal.returns
@@ -24,7 +24,7 @@ returns c =
     let ys = c.insert.new.table in
     let rows = c.insert.ensures.rows ∙ c.absorb-placed.ensures.rows in
     let behind = ap (λ k. drop k ys) top ∙ ap (drop (o * visit_width + visit_width)) c.insert.ensures.stored
-    ∙ behind_inserted (placed.at * visit_width) (o * visit_width) visit_width mid (visit_cells placed.visit) refl (omega arith) room
+    ∙ inserted_rest (placed.at * visit_width) (o * visit_width) visit_width mid (visit_cells placed.visit) (omega arith) room refl
     ∙ sym (drop-drop visit_width (o * visit_width) mid) ∙ ap (drop visit_width) c.absorb-placed.ensures.behind
     ∙ free_taken (n - o) o n xs (omega arith) in
     let many : o + 1 ≡ length (merge_in t v (visits_in n xs)) = sym (length_rows visit_width visit_made (o + 1) ys) ∙ ap length rows in
