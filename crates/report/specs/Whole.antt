@@ -3,7 +3,10 @@ use Rattle.std.specs.Prelude.{◌≡◌, ℕ, List, Some, None, string_bytes, Op
 use Rattle.visit.specs.declared.Terms.{Terms}
 use Rattle.command.specs.declared.Command.{Command}
 use Rattle.feed.specs.Files.{body, commands, terms_in, unread}
+use Rattle.store.specs.declared.capacity.Capacity.{Capacity}
 use Rattle.report.specs.declared.whole.Report.{Report}
+use Rattle.report.specs.SameText.{NoneWithheld}
+use Rattle.report.specs.Texts.{recompute_text}
 
 -- There is no report if the file is shorter than its terms. Else it has the text of the commands that can be read,
 -- and how many bytes at the end cannot.
@@ -11,3 +14,9 @@ abbrev pub Reported : (Terms → List Command → List ℕ) → List ℕ → Opt
 Reported text file None = terms_in file ≡ None
 Reported text file (Some r) =
     (t : Terms) × (terms_in file ≡ Some t) × (string_bytes r.text ≡ text t (commands (body file))) × (r.unread ≡ unread (body file))
+
+-- Of a report by a store: it has the text that recomputing prints, if no command of the file is refused with 1 or 7.
+abbrev pub AsRecomputed : Capacity → List ℕ → Option Report → Type 0
+AsRecomputed cap file None = Unit {0}
+AsRecomputed cap file (Some r) =
+    (t : Terms) → terms_in file ≡ Some t → NoneWithheld cap t (commands (body file)) → string_bytes r.text ≡ recompute_text t (commands (body file))

@@ -1,6 +1,8 @@
 // A whole command file to the whole text.
 #![tactic(auto)]
 
+pub mod by_store;
+pub mod same;
 pub mod sessions;
 pub mod whole;
 
