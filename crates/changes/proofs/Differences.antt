@@ -1,6 +1,6 @@
 -- Differences of visits that pass a test.
 use Rattle.std.proofs.Common.{◌≡◌, ℕ, ◌≤◌, Bool, true, false, not, ◌&&◌, List, [], ◌∷◌, filter, refl, ap, ◌∙◌, arith}
-use Rattle.std.specs.List.{AllByRecursion as All}
+use Rattle.std.specs.List.{AllByRecursion}
 use Rattle.std.proofs.ByRecursion.{All-weaker}
 use Rattle.std.proofs.lemmas.Bool.Decides.{nat_tests}
 use Rattle.visit.specs.declared.Terms.{Terms}
@@ -43,7 +43,7 @@ stays_closed : (t : Terms) (from to : ℕ) → from ≤ to → (v : Visit) → (
 unfolding closed
 stays_closed t from to h v = grind (arith, nat_tests)
 
-all_such : {X : Type 0} (P : X → Type 0) → ((x : X) → P x) → (xs : List X) → All P xs
+all_such : {X : Type 0} (P : X → Type 0) → ((x : X) → P x) → (xs : List X) → AllByRecursion P xs
 all_such P f [] = tt
 all_such P f (x ∷ xs) = (f x, all_such P f xs)
 

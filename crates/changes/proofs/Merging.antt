@@ -1,6 +1,6 @@
 -- A visit merged in, by the visits that it takes in, those that are left, and what it becomes.
 use Rattle.std.proofs.Common.{◌≡◌, ℕ, Bool, true, false, not, ◌&&◌, ◌||◌, List, [], ◌∷◌, ◌++◌, length, take, drop, filter, sym, refl, ap, ◌∙◌}
-use Rattle.std.specs.List.{AllByRecursion as All}
+use Rattle.std.specs.List.{AllByRecursion}
 use Rattle.std.proofs.ByRecursion.{All-weaker}
 use Rattle.std.proofs.lemmas.List.{drop_at, take_at}
 use Rattle.std.proofs.lemmas.Bool.{and_right, or_left, or_right}
@@ -48,23 +48,23 @@ module _ (t : Terms) (p : Visit → Bool) where
       (λ b. simp (n, b)))
 
   -- Where none of those left passes, only those taken in may pass before, and only what they become after.
-  pub kept_before : (v : Visit) (vs : List Visit) → All (λ w. p w ≡ false) (left_over t v vs) → filter p vs ≡ filter p (taken_in t v vs)
+  pub kept_before : (v : Visit) (vs : List Visit) → AllByRecursion (λ w. p w ≡ false) (left_over t v vs) → filter p vs ≡ filter p (taken_in t v vs)
   kept_before v [] a = refl
   kept_before v (w ∷ ws) a =
       split (near t v w)
       (λ n. let ih = kept_before (merged v w) ws (simp n at a) in simp (n, ih))
       (λ n. split (visit_before t w v)
-      (λ b. let k : All (λ x. p x ≡ false) (w ∷ left_over t v ws) = simp (n, b) at a in simp (n, b, k.0, kept_before v ws k.1))
-      (λ b. let k : All (λ x. p x ≡ false) (w ∷ ws) = simp (n, b) at a in simp (n, b) (kept_none p (w ∷ ws) k)))
+      (λ b. let k : AllByRecursion (λ x. p x ≡ false) (w ∷ left_over t v ws) = simp (n, b) at a in simp (n, b, k.0, kept_before v ws k.1))
+      (λ b. let k : AllByRecursion (λ x. p x ≡ false) (w ∷ ws) = simp (n, b) at a in simp (n, b) (kept_none p (w ∷ ws) k)))
 
-  pub kept_after : (v : Visit) (vs : List Visit) → All (λ w. p w ≡ false) (left_over t v vs) → filter p (merge_in t v vs) ≡ filter p (became t v vs ∷ [])
+  pub kept_after : (v : Visit) (vs : List Visit) → AllByRecursion (λ w. p w ≡ false) (left_over t v vs) → filter p (merge_in t v vs) ≡ filter p (became t v vs ∷ [])
   kept_after v [] a = refl
   kept_after v (w ∷ ws) a =
       split (near t v w)
       (λ n. let ih = kept_after (merged v w) ws (simp n at a) in simp (n, ih))
       (λ n. split (visit_before t w v)
-      (λ b. let k : All (λ x. p x ≡ false) (w ∷ left_over t v ws) = simp (n, b) at a in simp (n, b, k.0, kept_after v ws k.1))
-      (λ b. let k : All (λ x. p x ≡ false) (w ∷ ws) = simp (n, b) at a in simp (n, b, kept_none p (w ∷ ws) k)))
+      (λ b. let k : AllByRecursion (λ x. p x ≡ false) (w ∷ left_over t v ws) = simp (n, b) at a in simp (n, b, k.0, kept_after v ws k.1))
+      (λ b. let k : AllByRecursion (λ x. p x ≡ false) (w ∷ ws) = simp (n, b) at a in simp (n, b, kept_none p (w ∷ ws) k)))
 
 -- A visit that is left is there before and after, so neither list misses it.
 besides_in : (t : Terms) (m : ℕ) (ws : List Visit) (v : Visit) → In t ws v → closed_besides t m ws v ≡ false
@@ -78,7 +78,7 @@ module _ (t : Terms) (m : ℕ) (v : Visit) (vs : List Visit) where
   pub retracted_by : difference t (closed_visits t m vs) (closed_visits t m (merge_in t v vs)) ≡ filter (closed_besides t m (became t v vs ∷ left_over t v vs)) (taken_in t v vs)
   retracted_by =
       let rest = left_over t v vs in
-      let stays : All (λ w. closed_besides t m (merge_in t v vs) w ≡ false) rest =
+      let stays : AllByRecursion (λ w. closed_besides t m (merge_in t v vs) w ≡ false) rest =
       All-weaker (In t rest) (λ w. closed_besides t m (merge_in t v vs) w ≡ false)
       (λ w h. besides_in t m (merge_in t v vs) w (some_after t (same_visit t w) v vs ∙ or_right (same_visit t w (became t v vs)) (some (same_visit t w) rest) h)) rest (all_in t rest) in
       closed_difference t m vs (merge_in t v vs)
@@ -89,7 +89,7 @@ module _ (t : Terms) (m : ℕ) (v : Visit) (vs : List Visit) where
   added_by =
       let rest = left_over t v vs in
       let taken = taken_in t v vs in
-      let stays : All (λ w. closed_besides t m vs w ≡ false) rest =
+      let stays : AllByRecursion (λ w. closed_besides t m vs w ≡ false) rest =
       All-weaker (In t rest) (λ w. closed_besides t m vs w ≡ false)
       (λ w h. besides_in t m vs w (some_before t (same_visit t w) v vs ∙ or_left (some (same_visit t w) rest) (some (same_visit t w) taken) h)) rest (all_in t rest) in
       closed_difference t m (merge_in t v vs) vs

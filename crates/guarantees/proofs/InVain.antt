@@ -1,6 +1,6 @@
 -- What a reading that is handed over does to the row, and that each row is needed.
 use Rattle.std.proofs.Common.{◌≡◌, ℕ, ◌<◌, false, ltb, List, [], ◌∷◌, length, drop, Some, None, Option, Result, sym, refl, ap, ◌∙◌, subst, arith}
-use Rattle.std.specs.List.{ContainsAt as Has, AllByRecursion as All}
+use Rattle.std.specs.List.{ContainsAt as Has, AllByRecursion}
 use Rattle.std.proofs.ByRecursion.{all_kept_by, All-weaker}
 use Rattle.std.proofs.lemmas.Bool.{both_ways, le-ltb, lt-ltb}
 use Rattle.std.proofs.lemmas.Bool.Decides.{nat_tests}
@@ -47,23 +47,23 @@ use Rattle.guarantees.proofs.Sums.{visit_times}
 abbrev Bounded : Reading → Type 0
 Bounded e = command_fault (AReading e) ≡ None
 
-step_bounded : (t : Terms) (k : Reference) (c : Command) → command_fault c ≡ None → All Bounded k.readings → All Bounded (step t k c).readings
+step_bounded : (t : Terms) (k : Reference) (c : Command) → command_fault c ≡ None → AllByRecursion Bounded k.readings → AllByRecursion Bounded (step t k c).readings
 step_bounded t k (AReading e) b a =
     split (too_late t k.watermark e) (λ o. simp o a)
     (λ o. split (contains t e k.readings) (λ q. simp (o, q) a) (λ q. simp (o, q) (all_insert t Bounded e k.readings b a)))
 step_bounded t k (Watermark m) b a = split (ltb m k.watermark) (λ o. simp o a) (λ o. simp o a)
 
-bounded_now : (t : Terms) (xs : List ℕ) (calls : List Call) → All Bounded (reference_now t xs calls).readings
-bounded_now t xs calls = reference_keeps t (λ k. All Bounded k.readings) (step_bounded t) empty (empty_row t xs) calls tt
+bounded_now : (t : Terms) (xs : List ℕ) (calls : List Call) → AllByRecursion Bounded (reference_now t xs calls).readings
+bounded_now t xs calls = reference_keeps t (λ k. AllByRecursion Bounded k.readings) (step_bounded t) empty (empty_row t xs) calls tt
 
 card_within : (e : Reading) → Bounded e → e.card < word_limit
 card_within e b = grind (arith, nat_tests)
 
-prepend_cards : (t : Terms) (n : ℕ) (e : Reading) (vs : List Visit) → e.card < n → All (λ v. v.card < n) vs → All (λ v. v.card < n) (prepend t e vs)
+prepend_cards : (t : Terms) (n : ℕ) (e : Reading) (vs : List Visit) → e.card < n → AllByRecursion (λ v. v.card < n) vs → AllByRecursion (λ v. v.card < n) (prepend t e vs)
 prepend_cards t n e [] h a = (h, tt)
 prepend_cards t n e (v ∷ vs) h a = split (joins t e v) (λ o. simp o a) (λ o. simp o (h, a))
 
-visit_cards : (t : Terms) (n : ℕ) (es : List Reading) → All (λ e. e.card < n) es → All (λ v. v.card < n) (visits t es)
+visit_cards : (t : Terms) (n : ℕ) (es : List Reading) → AllByRecursion (λ e. e.card < n) es → AllByRecursion (λ v. v.card < n) (visits t es)
 visit_cards t n [] a = tt
 visit_cards t n (e ∷ es) a = prepend_cards t n e (visits t es) a.0 (visit_cards t n es a.1)
 
@@ -125,11 +125,11 @@ module _ (t : Terms) (k : Reference) (s : Standing t k) (rest : List ℕ) where
       ∙ ap (image t) (next_heard t k c (answer row c).reply o ∙ ap (state_by k) p)
       ∙ sym (step_mirror t k s.sorted (AReading e))
 
-  module _ (sound : terms_fault t ≡ None) (bounded : All Bounded k.readings) where
+  module _ (sound : terms_fault t ≡ None) (bounded : AllByRecursion Bounded k.readings) where
     abbrev WithinLimits : Visit → Type 0
     WithinLimits v = (v.card < word_limit) × ((v.from < time_limit) × (v.to < time_limit))
 
-    live_within : All WithinLimits (image t k).live
+    live_within : AllByRecursion WithinLimits (image t k).live
     live_within =
         all_kept_by (live t k.watermark) WithinLimits (visits t k.readings)
         (all_both (λ v. v.card < word_limit) (λ v. (v.from < time_limit) × (v.to < time_limit)) (visits t k.readings)
@@ -166,10 +166,10 @@ module _ (t : Terms) (k : Reference) (s : Standing t k) (rest : List ℕ) where
         let kept_ones : List Reading = (image t k).seen in
         record {
           visits =
-              subst (λ (z : Store). All (RowMayChange t row) z.live) (sym holds)
+              subst (λ (z : Store). AllByRecursion (RowMayChange t row) z.live) (sym holds)
               (All-weaker (λ v. WithinLimits v × MayChange t (image t k) v) (RowMayChange t row) changes_row live_ones (all_both WithinLimits (MayChange t (image t k)) live_ones live_within all.visits));
           readings =
-              subst (λ (z : Store). All (RefusedAgain t row) z.seen) (sym holds)
+              subst (λ (z : Store). AllByRecursion (RefusedAgain t row) z.seen) (sym holds)
               (All-weaker (λ e. Bounded e × (store_outcome t (image t k) (AReading e) ≡ refused (Duplicate e.time))) (RefusedAgain t row) again kept_ones
               (all_both Bounded (λ e. store_outcome t (image t k) (AReading e) ≡ refused (Duplicate e.time)) kept_ones (all_kept_by (kept t k.watermark) Bounded k.readings bounded) all.readings));
         }
@@ -182,8 +182,8 @@ needed_by t xs calls None f =
 needed_by t xs calls (Some r) f =
     let none : store_in (row_now t xs calls) ≡ image t empty = held_now t xs calls ∙ ap (image t) (bad_terms_stay t empty r f (empty_row t xs) calls) in
     record {
-      visits = subst (λ (z : Store). All (RowMayChange t (row_now t xs calls)) z.live) (sym none) tt;
-      readings = subst (λ (z : Store). All (RefusedAgain t (row_now t xs calls)) z.seen) (sym none) tt;
+      visits = subst (λ (z : Store). AllByRecursion (RowMayChange t (row_now t xs calls)) z.live) (sym none) tt;
+      readings = subst (λ (z : Store). AllByRecursion (RefusedAgain t (row_now t xs calls)) z.seen) (sym none) tt;
     }
 
 pub row_nothing_in_vain : RowNothingInVain

@@ -1,6 +1,6 @@
 -- What a refusal leaves, and when a command is judged by its own rules.
 use Rattle.std.proofs.Common.{◌≡◌, ℕ, true, false, ltb, List, length, drop, Ok, Err, Result, sym, refl, ap, ◌∙◌, ⊎_elim, arith}
-use Rattle.std.specs.List.{AllByRecursion as All}
+use Rattle.std.specs.List.{AllByRecursion}
 use Rattle.std.proofs.ByRecursion.{All-append}
 use Rattle.std.proofs.lemmas.Bool.{true≢false}
 use Rattle.visit.specs.declared.Reading.{Reading}
@@ -32,9 +32,9 @@ refusals_change_nothing xs c r e = by_verdict xs c.out (verdict c.capacity xs c.
 abbrev Unjudged : Refusal → Type 0
 Unjudged r = judged (Refused r) ≡ false
 
-early : (xs : List ℕ) (c : Call) → All (Only Unjudged) (faults c.capacity xs c.command (length c.out))
+early : (xs : List ℕ) (c : Call) → AllByRecursion (Only Unjudged) (faults c.capacity xs c.command (length c.out))
 early xs c =
-    let later : All (Only Unjudged) (drop (length (store_faults xs)) (faults c.capacity xs c.command (length c.out))) = (
+    let later : AllByRecursion (Only Unjudged) (drop (length (store_faults xs)) (faults c.capacity xs c.command (length c.out))) = (
       terms_only Unjudged (λ n. refl) (terms_in xs),
       (
         watermark_only Unjudged (λ n. refl) (header_in xs),

@@ -1,7 +1,7 @@
 -- Nothing is wrong with a row that holds a store just if no number of its rows is over its limit.
 use Rattle.std.proofs.Common.{◌≡◌, ℕ, ◌+◌, ◌*◌, ◌≤◌, List, [], ◌∷◌, ◌++◌, length, None, Option, sym, refl, ap, ◌∙◌, subst, add-zero, arith}
 use Rattle.std.specs.Option.{option_map}
-use Rattle.std.specs.List.{repeat, AllByRecursion as All}
+use Rattle.std.specs.List.{repeat, AllByRecursion}
 use Rattle.std.proofs.lemmas.List.{append_assoc, length-append}
 use Rattle.std.proofs.lemmas.Bool.{le-ltb, lt-leb}
 use Rattle.visit.specs.declared.Line.{Line}
@@ -28,7 +28,7 @@ use Rattle.guarantees.proofs.Clean.{clean_cut, clean_length}
 
 -- No cell of the rows is over its limit just if none in the table is.
 module _ {R : Type 0} {w : ℕ} {made : List ℕ → R} {cells : R → List ℕ} (laws : Laws w made cells) (ls : List (Option ℕ)) (limited : length ls ≡ w) where
-  rows_sound : (i : ℕ) (rs : List R) (q : List ℕ) → All (λ r. first_over 0 ls (cells r) ≡ None) rs → first_over i (repeat (length rs) ls) (cells_of cells rs ++ q) ≡ None
+  rows_sound : (i : ℕ) (rs : List R) (q : List ℕ) → AllByRecursion (λ r. first_over 0 ls (cells r) ≡ None) rs → first_over i (repeat (length rs) ls) (cells_of cells rs ++ q) ≡ None
   rows_sound i [] q a = refl
   rows_sound i (r ∷ rs) q a =
       let here : first_over i ls (cells r) ≡ None =
@@ -38,10 +38,10 @@ module _ {R : Type 0} {w : ℕ} {made : List ℕ → R} {cells : R → List ℕ}
       ∙ ap (λ (o : Option ℕ). or_else o (first_over (i + length (cells r)) (repeat (length rs) ls) (cells_of cells rs ++ q))) here
       ∙ rows_sound (i + length (cells r)) rs q a.1
 
-  rows_small : (i : ℕ) (rs : List R) (q : List ℕ) → first_over i (repeat (length rs) ls) (cells_of cells rs ++ q) ≡ None → All (λ r. first_over 0 ls (cells r) ≡ None) rs
+  rows_small : (i : ℕ) (rs : List R) (q : List ℕ) → first_over i (repeat (length rs) ls) (cells_of cells rs ++ q) ≡ None → AllByRecursion (λ r. first_over 0 ls (cells r) ≡ None) rs
   rows_small i rs q e =
       let long : length rs * w ≤ length (cells_of cells rs ++ q) = omega (arith, length-append (cells_of cells rs) q, length_cells laws rs) in
-      subst (All (λ r. first_over 0 ls (cells r) ≡ None)) (rows_of_cells laws rs q) (none_over laws ls limited i (length rs) (cells_of cells rs ++ q) long e)
+      subst (AllByRecursion (λ r. first_over 0 ls (cells r) ≡ None)) (rows_of_cells laws rs q) (none_over laws ls limited i (length rs) (cells_of cells rs ++ q) long e)
 
 -- Visits, readings and lines none of whose numbers is over its limit.
 abbrev pub SmallVisit : Visit → Type 0
@@ -54,9 +54,9 @@ abbrev pub SmallLine : Line → Type 0
 SmallLine l = first_over 0 line_limits (line_cells l) ≡ None
 
 pub record Small (s : Store) : Type 0 where
-  pub live : All SmallVisit s.live
-  pub seen : All SmallReading s.seen
-  pub ledger : All SmallLine s.ledger
+  pub live : AllByRecursion SmallVisit s.live
+  pub seen : AllByRecursion SmallReading s.seen
+  pub ledger : AllByRecursion SmallLine s.ledger
 
 module _ (t : Terms) (s : Store) (rest : List ℕ) (fits : Fits s) where
   abbrev row : List ℕ
@@ -85,7 +85,7 @@ module _ (t : Terms) (s : Store) (rest : List ℕ) (fits : Fits s) where
   lines_looked : lines_fault (header_of t s) row ≡ option_map BadStore (first_over lines_at (repeat (length s.ledger) line_limits) (clean_parts t s rest).lines)
   lines_looked = ap (λ (p : Parts). option_map BadStore (first_over lines_at (repeat (length s.ledger) line_limits) p.lines)) cut
 
-  pub clean_sound : Small s → All (λ f. f ≡ None) (store_faults row)
+  pub clean_sound : Small s → AllByRecursion (λ f. f ≡ None) (store_faults row)
   clean_sound z =
       let bad : Option ℕ → Option Refusal = option_map BadStore in (
         short_sound,
@@ -101,7 +101,7 @@ module _ (t : Terms) (s : Store) (rest : List ℕ) (fits : Fits s) where
         ),
       )
 
-  pub clean_small : All (λ f. f ≡ None) (store_faults row) → Small s
+  pub clean_small : AllByRecursion (λ f. f ≡ None) (store_faults row) → Small s
   clean_small a =
       record {
         live = rows_small visit_laws visit_limits visit_limited visits_at s.live _ (mapped_none BadStore _ (sym visits_looked ∙ a.1.1.0));

@@ -1,6 +1,6 @@
 -- What some cards have: of the ledger, of the store that stands for a reference, and of what is planned for a command.
 use Rattle.std.proofs.Common.{◌≡◌, ℕ, ◌+◌, ◌<◌, min, Bool, true, false, not, ◌&&◌, ltb, List, [], ◌∷◌, length, None, Ok, Err, filter, Result, sym, refl, ap, ◌∙◌, ⊎_elim, arith}
-use Rattle.std.specs.List.{AllByRecursion as All}
+use Rattle.std.specs.List.{AllByRecursion}
 use Rattle.std.proofs.ByRecursion.{all_kept_by, All-weaker, kept_by_passes}
 use Rattle.std.proofs.lemmas.Bool.{both_ways, cond-false, cond-true, lt-ltb}
 use Rattle.std.proofs.lemmas.Bool.Decides.{nat_tests}
@@ -50,7 +50,7 @@ key_card : (t : Terms) (x a : Line) → same_key t x a ≡ true → x.card ≡ a
 unfolding same_key
 key_card t x a h = grind (arith, nat_tests)
 
-add_front : (t : Terms) (a : Line) (ls : List Line) → All (λ y. line_before t a y ≡ true) ls → add_line t a ls ≡ a ∷ ls
+add_front : (t : Terms) (a : Line) (ls : List Line) → AllByRecursion (λ y. line_before t a y ≡ true) ls → add_line t a ls ≡ a ∷ ls
 add_front t a [] b = refl
 add_front t a (y ∷ ys) b = let n = behind_key t a y b.0 in simp (n.0, n.1)
 
@@ -68,7 +68,7 @@ module _ (t : Terms) (p : ℕ → Bool) where
       (λ q. simp (o, k, q, h))
       (λ q.
       let n = key_after t x a o k in
-      let b : All (λ y. line_before t a y ≡ true) xs = All-weaker (λ y. line_before t x y ≡ true) (λ y. line_before t a y ≡ true) (λ y r. key_through t a x y n r) xs l.1 in
+      let b : AllByRecursion (λ y. line_before t a y ≡ true) xs = All-weaker (λ y. line_before t x y ≡ true) (λ y. line_before t a y ≡ true) (λ y r. key_through t a x y n r) xs l.1 in
       let f = add_front t a (lines_part p xs) (all_kept_by (λ y. p y.card) (λ y. line_before t a y ≡ true) xs b) in
       simp (o, k, q, h, f))))
 

@@ -1,7 +1,7 @@
 -- Several refusals, one before the other: which of them comes.
 use Rattle.std.proofs.Common.{◌≡◌, ℕ, Bool, true, false, cond, ltb, ◌⊎◌, List, [], ◌∷◌, length, get_or, Some, None, Err, Option, Result, refl, ap, ◌∙◌, inl, inr, ⊎_elim, arith}
 use Rattle.std.specs.Option.{option_map}
-use Rattle.std.specs.List.{AllByRecursion as All}
+use Rattle.std.specs.List.{AllByRecursion}
 use Rattle.visit.specs.declared.Terms.{Terms}
 use Rattle.command.specs.declared.Command.{Command}
 use Rattle.command.specs.declared.Command.TheVariants.{Reading as AReading, Watermark}
@@ -18,7 +18,7 @@ use Rattle.store.specs.Faults.{command_in, command_width, first_fault, known_kin
 use Rattle.guarantees.specs.Calls.{Call}
 use Rattle.guarantees.specs.Faithful.{call_faults, withheld}
 
-pub first_none : {X : Type 0} (fs : List (Option Refusal)) (r : Result X Refusal) → All (λ f. f ≡ None) fs → first_fault fs r ≡ r
+pub first_none : {X : Type 0} (fs : List (Option Refusal)) (r : Result X Refusal) → AllByRecursion (λ f. f ≡ None) fs → first_fault fs r ≡ r
 first_none [] r a = refl
 first_none (f ∷ fs) r a = ap (λ (g : Option Refusal). or_fault g (first_fault fs r)) a.0 ∙ first_none fs r a.1
 
@@ -32,7 +32,7 @@ pub record Comes (P : Refusal → Type 0) (fs : List (Option Refusal)) : Type 1 
   pub kind : P refusal
   pub first : {X : Type 0} (r : Result X Refusal) → first_fault fs r ≡ Err refusal
 
-pub which_comes : (P : Refusal → Type 0) (fs : List (Option Refusal)) → All (Only P) fs → All (λ f. f ≡ None) fs ⊎ Comes P fs
+pub which_comes : (P : Refusal → Type 0) (fs : List (Option Refusal)) → AllByRecursion (Only P) fs → AllByRecursion (λ f. f ≡ None) fs ⊎ Comes P fs
 which_comes P [] a = inl tt
 which_comes P (f ∷ fs) a =
     ⊎_elim
@@ -57,7 +57,7 @@ module _ (P : Refusal → Type 0) where
   cond_only false f g p q = q
 
   -- What holds of a kind of refusal holds of each check that brings it.
-  pub store_only : ((n : ℕ) → P (BadStore n)) → (xs : List ℕ) → All (Only P) (store_faults xs)
+  pub store_only : ((n : ℕ) → P (BadStore n)) → (xs : List ℕ) → AllByRecursion (Only P) (store_faults xs)
   store_only h xs =
       let some : (n : ℕ) → Only P (Some (BadStore n)) = some_only BadStore h in
       let bad = mapped_only BadStore h in
@@ -92,7 +92,7 @@ IsFull r = (p : ℕ) × (r ≡ Full p)
 abbrev pub OpenRefusal : Refusal → Type 0
 OpenRefusal r = withheld (Refused r) ≡ false
 
-pub call_only : (t : Terms) (c : Call) → All (Only OpenRefusal) (call_faults t c)
+pub call_only : (t : Terms) (c : Call) → AllByRecursion (Only OpenRefusal) (call_faults t c)
 call_only t c =
     (terms_only OpenRefusal (λ n. refl) t, (row_only OpenRefusal (λ n. refl) c.command, (out_only OpenRefusal (λ n. refl) (length c.out), tt)))
 

@@ -1,6 +1,6 @@
 -- Runs that nothing hinders.
 use Rattle.std.proofs.Common.{◌≡◌, ℕ, Bool, cond, List, [], ◌∷◌, map, length, None, Option, Result, refl, ap, ◌∙◌, subst}
-use Rattle.std.specs.List.{AllByRecursion as All}
+use Rattle.std.specs.List.{AllByRecursion}
 use Rattle.std.proofs.lemmas.Bool.{le-ltb}
 use Rattle.visit.specs.declared.Terms.{Terms}
 use Rattle.command.specs.declared.Refusal.{Refusal}
@@ -30,7 +30,7 @@ planned_bounded t k c w =
     ap (λ (f : Option Refusal). or_fault (terms_fault t) (or_fault f (or_fault (out_fault (length c.out)) p))) (whole_row c w)
     ∙ ap (λ (f : Option Refusal). or_fault (terms_fault t) (or_fault (command_fault (command_in c.command)) (or_fault f p))) (whole_out c w)
 
-as_reference : (t : Terms) (k : Reference) (xs : List ℕ) (calls : List Call) → Faithful t k xs calls → All Whole calls → Unhindered xs calls → AsReference t k xs calls
+as_reference : (t : Terms) (k : Reference) (xs : List ℕ) (calls : List Call) → Faithful t k xs calls → AllByRecursion Whole calls → Unhindered xs calls → AsReference t k xs calls
 as_reference t k xs [] f w h = record { replies = refl; outs = refl; ledger = f }
 as_reference t k xs (c ∷ cs) f w h =
     let a : Applied = answer xs c in

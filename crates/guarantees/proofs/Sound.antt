@@ -1,6 +1,6 @@
 -- Nothing is wrong with a row that stands for few readings of small amounts.
 use Rattle.std.proofs.Common.{◌≡◌, ℕ, ◌<◌, ◌≤◌, List, length, None, sum_by, arith}
-use Rattle.std.specs.List.{AllByRecursion as All}
+use Rattle.std.specs.List.{AllByRecursion}
 use Rattle.std.proofs.ByRecursion.{all_kept_by, All-weaker}
 use Rattle.std.proofs.lemmas.Bool.{lt-leb}
 use Rattle.visit.specs.declared.Line.{Line}
@@ -30,14 +30,14 @@ reading_sound e h = simp (lt-leb time_limit e.time h)
 line_sound : (l : Line) → (l.visits < count_limit) × (l.sum < sum_limit) → SmallLine l
 line_sound l h = simp (lt-leb count_limit l.visits h.0, lt-leb sum_limit l.sum h.1)
 
-below : {X : Type 0} (f : X → ℕ) (n : ℕ) (xs : List X) → sum_by f xs < n → All (λ x. f x < n) xs
+below : {X : Type 0} (f : X → ℕ) (n : ℕ) (xs : List X) → sum_by f xs < n → AllByRecursion (λ x. f x < n) xs
 below f n xs h = All-weaker (λ x. f x ≤ sum_by f xs) (λ x. f x < n) (λ x l. omega arith) xs (each_in_sum f xs)
 
 module _ (t : Terms) (k : Reference) (s : Standing t k) (few : length k.readings < count_limit) (small : sum_by (λ e. e.amount) k.readings < sum_limit) where
   abbrev all_visits : List Visit
   all_visits = visits t k.readings
 
-  small_visits : All SmallVisit all_visits
+  small_visits : AllByRecursion SmallVisit all_visits
   small_visits =
       All-weaker _ SmallVisit visit_sound all_visits
       (all_both (λ v. (v.from < time_limit) × (v.to < time_limit)) (λ v. (v.count < count_limit) × (v.sum < sum_limit)) all_visits (visit_times t time_limit k.readings s.times)
@@ -45,7 +45,7 @@ module _ (t : Terms) (k : Reference) (s : Standing t k) (few : length k.readings
       (below (λ v. v.count) count_limit all_visits (omega (arith, counts_taken t k.readings)))
       (below (λ v. v.sum) sum_limit all_visits (omega (arith, sums_taken t k.readings)))))
 
-  small_lines : All SmallLine (ledger_of t k)
+  small_lines : AllByRecursion SmallLine (ledger_of t k)
   small_lines =
       let closed_few = kept_shorter (closed t k.watermark) all_visits in
       let closed_small = kept_sum (λ v. v.sum) (closed t k.watermark) all_visits in
@@ -55,7 +55,7 @@ module _ (t : Terms) (k : Reference) (s : Standing t k) (few : length k.readings
       (below (λ l. l.sum) sum_limit (ledger_of t k) (omega (arith, total_sum t (closed_of t k), sums_taken t k.readings, closed_small))))
 
   -- So nothing is wrong with the row.
-  pub sound_now : (rest : List ℕ) → All (λ f. f ≡ None) (store_faults (clean_row t (image t k) rest))
+  pub sound_now : (rest : List ℕ) → AllByRecursion (λ f. f ≡ None) (store_faults (clean_row t (image t k) rest))
   sound_now rest =
       clean_sound t (image t k) rest s.roomy.fits
       (record {

@@ -1,6 +1,6 @@
 -- A row that stands for a reference: what a call on it answers, and that it stands for the next reference after it.
 use Rattle.std.proofs.Common.{◌≡◌, ℕ, ◌<◌, true, false, cond, ltb, ◌⊎◌, List, length, Some, None, Ok, Err, Option, Result, sym, refl, ap, ◌∙◌, subst, inl, inr, ⊎_elim, arith}
-use Rattle.std.specs.List.{AllByRecursion as All}
+use Rattle.std.specs.List.{AllByRecursion}
 use Rattle.std.proofs.lemmas.Bool.{lt-ltb}
 use Rattle.std.proofs.lemmas.Bool.Decides.{nat_tests}
 use Rattle.visit.specs.declared.Reading.{Reading}
@@ -35,7 +35,7 @@ use Rattle.guarantees.proofs.Roomy.{LeavesRoom, Roomy, empty_roomy, leaves_room}
 pub record Standing (t : Terms) (k : Reference) : Type 0 where
   pub sorted : SortedReadings t k.readings
   pub watermark : k.watermark < time_limit
-  pub times : All (λ e. e.time < time_limit) k.readings
+  pub times : AllByRecursion (λ e. e.time < time_limit) k.readings
   pub roomy : Roomy t (image t k)
 
 pub empty_standing : (t : Terms) → Standing t empty
@@ -43,7 +43,7 @@ empty_standing t = record { sorted = tt; watermark = omega arith; times = tt; ro
 
 -- A command within bounds keeps watermark and times within them.
 abbrev Within : Reference → Type 0
-Within k = (k.watermark < time_limit) × All (λ e. e.time < time_limit) k.readings
+Within k = (k.watermark < time_limit) × AllByRecursion (λ e. e.time < time_limit) k.readings
 
 abbrev WithinBy : Result Reference Refusal → Type 0
 WithinBy (Ok k) = Within k
@@ -156,8 +156,8 @@ pub record Withheld (t : Terms) (k : Reference) (rest : List ℕ) (c : Call) : T
   pub refusal : Refusal
   pub unheard : withheld (Refused refusal) ≡ true
   pub answered : answer (clean_row t (image t k) rest) c ≡ refused_by (clean_row t (image t k) rest) c.out refusal
-  pub bad : number refusal ≡ 1 → All (λ f. f ≡ None) (store_faults (clean_row t (image t k) rest)) → ⊥
-  pub full : number refusal ≡ 7 → All (λ f. f ≡ None) (call_faults t c)
+  pub bad : number refusal ≡ 1 → AllByRecursion (λ f. f ≡ None) (store_faults (clean_row t (image t k) rest)) → ⊥
+  pub full : number refusal ≡ 7 → AllByRecursion (λ f. f ≡ None) (call_faults t c)
   pub no_room : number refusal ≡ 7 → room_fault c.capacity (header_of t (image t k)) (image t k) (command_in c.command) ≡ None → ⊥
 
 module _ (t : Terms) (k : Reference) (s : Standing t k) (rest : List ℕ) (c : Call) where
@@ -180,7 +180,7 @@ module _ (t : Terms) (k : Reference) (s : Standing t k) (rest : List ℕ) (c : C
         no_room = λ o. absurd (omega arith);
       }
 
-  wrong_call : All (λ f. f ≡ None) (store_faults row_of_it) → Comes OpenRefusal (call_faults t c) → Heard t k rest c
+  wrong_call : AllByRecursion (λ f. f ≡ None) (store_faults row_of_it) → Comes OpenRefusal (call_faults t c) → Heard t k rest c
   wrong_call sound b =
       let e : the_verdict ≡ Err b.refusal = verdict_is t k s rest c ∙ first_none (store_faults row_of_it) _ sound ∙ b.first _ in
       let p : planned t k c ≡ Err b.refusal = b.first _ in
@@ -190,7 +190,7 @@ module _ (t : Terms) (k : Reference) (s : Standing t k) (rest : List ℕ) (c : C
         stands = subst (λ (q : Result Reference Refusal). Standing t (state_by k q)) (sym p) s;
       }
 
-  pub no_room_left : All (λ f. f ≡ None) (store_faults row_of_it) → All (λ f. f ≡ None) (call_faults t c) → (r : Refusal) × IsFull r × (no_room t k s rest c ≡ Some r) → Withheld t k rest c
+  pub no_room_left : AllByRecursion (λ f. f ≡ None) (store_faults row_of_it) → AllByRecursion (λ f. f ≡ None) (call_faults t c) → (r : Refusal) × IsFull r × (no_room t k s rest c ≡ Some r) → Withheld t k rest c
   no_room_left sound fine f =
       let e : the_verdict ≡ Err f.0 =
       verdict_is t k s rest c ∙ first_none (store_faults row_of_it) _ sound ∙ first_none (call_faults t c) _ fine
@@ -205,7 +205,7 @@ module _ (t : Terms) (k : Reference) (s : Standing t k) (rest : List ℕ) (c : C
         no_room = λ _ o. let z : ◌≡◌ {A = ℕ} 0 1 = cc (f.2, o) in omega arith;
       }
 
-  by_reference : All (λ f. f ≡ None) (store_faults row_of_it) → All (λ f. f ≡ None) (call_faults t c) → no_room t k s rest c ≡ None → Heard t k rest c
+  by_reference : AllByRecursion (λ f. f ≡ None) (store_faults row_of_it) → AllByRecursion (λ f. f ≡ None) (call_faults t c) → no_room t k s rest c ≡ None → Heard t k rest c
   by_reference sound fine free =
       let command : Command = command_in c.command in
       let e : the_verdict ≡ drafted_by t k.watermark (plan t k command) =

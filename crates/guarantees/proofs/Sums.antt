@@ -1,6 +1,6 @@
 -- Counts and sums of visits and lines come to those of the readings that were taken in.
 use Rattle.std.proofs.Common.{◌≡◌, ℕ, ◌+◌, ◌<◌, ◌≤◌, Bool, not, List, [], ◌∷◌, length, sum_by, filter, sym, refl, ap, ◌∙◌, arith}
-use Rattle.std.specs.List.{AllByRecursion as All}
+use Rattle.std.specs.List.{AllByRecursion}
 use Rattle.std.proofs.ByRecursion.{All-weaker}
 use Rattle.std.proofs.lemmas.List.Filters.{sum_by-filter_both}
 use Rattle.std.proofs.lemmas.List.Sums.{sum_by-cons}
@@ -15,7 +15,7 @@ use Rattle.model.specs.Sessions.{prepend, visits}
 use Rattle.model.proofs.Common.{split}
 
 -- Each is at most the sum of all.
-pub each_in_sum : {X : Type 0} (f : X → ℕ) (xs : List X) → All (λ x. f x ≤ sum_by f xs) xs
+pub each_in_sum : {X : Type 0} (f : X → ℕ) (xs : List X) → AllByRecursion (λ x. f x ≤ sum_by f xs) xs
 each_in_sum f [] = tt
 each_in_sum f (x ∷ xs) =
     let s = sum_by-cons f x xs in
@@ -60,11 +60,11 @@ few_visits t [] = omega arith
 few_visits t (e ∷ es) = omega (arith, length_prepend t e (visits t es), few_visits t es)
 
 -- The first and last times of visits are times of readings.
-prepend_times : (t : Terms) (n : ℕ) (e : Reading) (vs : List Visit) → e.time < n → All (λ v. (v.from < n) × (v.to < n)) vs → All (λ v. (v.from < n) × (v.to < n)) (prepend t e vs)
+prepend_times : (t : Terms) (n : ℕ) (e : Reading) (vs : List Visit) → e.time < n → AllByRecursion (λ v. (v.from < n) × (v.to < n)) vs → AllByRecursion (λ v. (v.from < n) × (v.to < n)) (prepend t e vs)
 prepend_times t n e [] h a = ((h, h), tt)
 prepend_times t n e (v ∷ vs) h a = split (joins t e v) (λ o. simp o ((h, a.0.1), a.1)) (λ o. simp o ((h, h), a))
 
-pub visit_times : (t : Terms) (n : ℕ) (es : List Reading) → All (λ e. e.time < n) es → All (λ v. (v.from < n) × (v.to < n)) (visits t es)
+pub visit_times : (t : Terms) (n : ℕ) (es : List Reading) → AllByRecursion (λ e. e.time < n) es → AllByRecursion (λ v. (v.from < n) × (v.to < n)) (visits t es)
 visit_times t n [] a = tt
 visit_times t n (e ∷ es) a = prepend_times t n e (visits t es) a.0 (visit_times t n es a.1)
 

@@ -1,6 +1,6 @@
 -- A call is withheld from the reference just if something is wrong with the store, or only room is wanting.
 use Rattle.std.proofs.Common.{◌≡◌, ℕ, false, List, None, sym, refl, ap, ◌∙◌, ⊎_elim}
-use Rattle.std.specs.List.{AllByRecursion as All}
+use Rattle.std.specs.List.{AllByRecursion}
 use Rattle.std.proofs.lemmas.Bool.{true≢false}
 use Rattle.visit.specs.declared.Terms.{Terms}
 use Rattle.model.specs.Reference.{Reference}
@@ -17,8 +17,8 @@ use Rattle.guarantees.proofs.Standing.{Heard, Standing, Withheld, bad_store, no_
 
 -- Nothing is wrong with the store, and if nothing is wrong with the call, there is room for its command.
 pub record Open (t : Terms) (k : Reference) (rest : List ℕ) (c : Call) : Type 0 where
-  pub sound : All (λ f. f ≡ None) (store_faults (clean_row t (image t k) rest))
-  pub free : All (λ f. f ≡ None) (call_faults t c) → room_fault c.capacity (header_of t (image t k)) (image t k) (command_in c.command) ≡ None
+  pub sound : AllByRecursion (λ f. f ≡ None) (store_faults (clean_row t (image t k) rest))
+  pub free : AllByRecursion (λ f. f ≡ None) (call_faults t c) → room_fault c.capacity (header_of t (image t k)) (image t k) (command_in c.command) ≡ None
 
 module _ (t : Terms) (k : Reference) (s : Standing t k) (rest : List ℕ) (c : Call) where
   abbrev the_answer : Applied

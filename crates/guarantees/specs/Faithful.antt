@@ -1,6 +1,6 @@
 -- The store in a row answers as the reference does, call after call.
 use Rattle.std.specs.Prelude.{◌≡◌, ℕ, Bool, false, cond, ◌||◌, List, [], ◌∷◌, length, None, Option, Result, ◌==◌}
-use Rattle.std.specs.List.{AllByRecursion as All}
+use Rattle.std.specs.List.{AllByRecursion}
 use Rattle.visit.specs.declared.Terms.{Terms}
 use Rattle.command.specs.declared.Refusal.{Refusal}
 use Rattle.command.specs.declared.Reply.{Reply}
@@ -43,7 +43,7 @@ reference_left t k xs (c ∷ cs) = reference_left t (next t k c (answer xs c).re
 pub record RightAnswer (t : Terms) (k : Reference) (c : Call) (a : Applied) : Type 0 where
   pub reply : withheld a.reply ≡ false → a.reply ≡ reply_of (outcome_by t k (planned t k c))
   pub out : withheld a.reply ≡ false → a.out ≡ out_after (outcome_by t k (planned t k c)) c.out
-  pub full : reply_number a.reply ≡ 7 → All (λ f. f ≡ None) (call_faults t c)
+  pub full : reply_number a.reply ≡ 7 → AllByRecursion (λ f. f ≡ None) (call_faults t c)
 
 -- Along calls on a row: the ledger in the row is always the reference's, and each answer is right.
 abbrev pub Faithful : Terms → Reference → List ℕ → List Call → Type 0

@@ -1,6 +1,6 @@
 -- Nothing is kept in vain: each row of live visits and of kept readings is needed.
 use Rattle.std.specs.Prelude.{◌≡◌, ℕ, ◌≤◌, false, List, ◌∷◌, length, None}
-use Rattle.std.specs.List.{ContainsAt as Has, AllByRecursion as All}
+use Rattle.std.specs.List.{ContainsAt as Has, AllByRecursion}
 use Rattle.visit.specs.declared.Reading.{Reading}
 use Rattle.visit.specs.declared.Terms.{Terms}
 use Rattle.visit.specs.declared.Visit.{Visit}
@@ -21,7 +21,7 @@ use Rattle.guarantees.specs.Faithful.{call_faults, withheld}
 -- A call hands over a reading, and nothing is wrong with the call itself: terms and numbers are within bounds, and `out` has room.
 pub record HandsOver (t : Terms) (e : Reading) (c : Call) : Type 0 where
   pub reading : command_in c.command ≡ AReading e
-  pub fine : All (λ f. f ≡ None) (call_faults t c)
+  pub fine : AllByRecursion (λ f. f ≡ None) (call_faults t c)
 
 -- Any call does that whose command is the kind 0 and the reading's four numbers, if only `out` has room.
 abbrev pub reading_call : Reading → Capacity → List ℕ → Call
@@ -52,8 +52,8 @@ pub record RefusedAgain (t : Terms) (xs : List ℕ) (e : Reading) : Type 0 where
       → (answer xs c).reply ≡ Refused (Duplicate e.time)
 
 pub record AllNeeded (t : Terms) (xs : List ℕ) : Type 0 where
-  pub visits : All (RowMayChange t xs) (store_in xs).live
-  pub readings : All (RefusedAgain t xs) (store_in xs).seen
+  pub visits : AllByRecursion (RowMayChange t xs) (store_in xs).live
+  pub readings : AllByRecursion (RefusedAgain t xs) (store_in xs).seen
 
 -- So it is after any calls from an empty store on; `StoreSound` and `ReadingHasRoom` say when neither 1 nor 7 comes. The bounds of numbers take
 -- nothing away: a time up to the visit's last or the watermark, and a serial up to the number of kept readings, always do.

@@ -1,6 +1,6 @@
 -- Runs that want of room does not hinder: replies, changes and ledger as one would have them of the reference alone.
 use Rattle.std.specs.Prelude.{◌≡◌, ℕ, ◌≤◌, true, false, List, [], ◌∷◌, map, length, slice_index}
-use Rattle.std.specs.List.{AllByRecursion as All}
+use Rattle.std.specs.List.{AllByRecursion}
 use Rattle.visit.specs.declared.Terms.{Terms}
 use Rattle.command.specs.declared.Command.{Command}
 use Rattle.command.specs.Outcomes.{Outcome, reply_of}
@@ -19,7 +19,7 @@ pub record Whole (c : Call) : Type 0 where
 
 -- No call is refused with 1 or 7.
 abbrev pub Unhindered : List ℕ → List Call → Type 0
-Unhindered xs calls = All (λ a. withheld a.reply ≡ false) (answers xs calls)
+Unhindered xs calls = AllByRecursion (λ a. withheld a.reply ≡ false) (answers xs calls)
 
 abbrev pub commands : List Call → List Command
 commands calls = map (λ c. command_in c.command) calls
@@ -37,4 +37,4 @@ pub record AsReference (t : Terms) (k : Reference) (xs : List ℕ) (calls : List
 
 -- Of whole calls none is refused with 1 or 7: then all is as the reference has it.
 abbrev pub UnhinderedRun : Type 0
-UnhinderedRun = (t : Terms) (xs : List ℕ) (calls : List Call) → All Whole calls → Unhindered (empty_row t xs) calls → AsReference t empty (empty_row t xs) calls
+UnhinderedRun = (t : Terms) (xs : List ℕ) (calls : List Call) → AllByRecursion Whole calls → Unhindered (empty_row t xs) calls → AsReference t empty (empty_row t xs) calls

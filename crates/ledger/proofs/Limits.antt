@@ -1,6 +1,6 @@
 -- Lines and visits that are within their limits leave room for more.
 use Rattle.std.proofs.Common.{◌≡◌, ℕ, ◌*◌, ◌^◌, ◌<◌, ◌≤◌, List, length, None, arith}
-use Rattle.std.specs.List.{AllByRecursion as All}
+use Rattle.std.specs.List.{AllByRecursion}
 use Rattle.std.proofs.ByRecursion.{All-weaker, sum_by_le}
 use Rattle.std.proofs.lemmas.Bool.Decides.{nat_tests}
 use Rattle.visit.specs.declared.Line.{Line}
@@ -21,7 +21,7 @@ VisitWithin v = first_over 0 visit_limits (visit_cells v) ≡ None
 line_limited : (l : Line) → LineWithin l → (l.visits < count_limit) × (l.sum < sum_limit)
 line_limited l h = (grind (arith, nat_tests), grind (arith, nat_tests))
 
-pub fits_within : (k s : ℕ) (ls : List Line) → k ≤ 2 ^ 63 → s ≤ 2 ^ 63 → All LineWithin ls → Fits k s ls
+pub fits_within : (k s : ℕ) (ls : List Line) → k ≤ 2 ^ 63 → s ≤ 2 ^ 63 → AllByRecursion LineWithin ls → Fits k s ls
 fits_within k s ls few small a =
     record {
       visits = omega arith;
@@ -33,5 +33,5 @@ fits_within k s ls few small a =
 visit_limited : (v : Visit) → VisitWithin v → v.sum ≤ sum_limit
 visit_limited v h = grind (arith, nat_tests)
 
-pub sums_within : (vs : List Visit) → All VisitWithin vs → sums vs ≤ length vs * sum_limit
+pub sums_within : (vs : List Visit) → AllByRecursion VisitWithin vs → sums vs ≤ length vs * sum_limit
 sums_within vs a = sum_by_le (λ (v : Visit). v.sum) sum_limit vs (All-weaker VisitWithin (λ v. v.sum ≤ sum_limit) visit_limited vs a)

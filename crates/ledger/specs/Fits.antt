@@ -1,6 +1,6 @@
 -- What may still be added to the lines of a ledger.
 use Rattle.std.specs.Prelude.{ℕ, ◌+◌, ◌^◌, ◌<◌, List, sum_by}
-use Rattle.std.specs.List.{AllByRecursion as All}
+use Rattle.std.specs.List.{AllByRecursion}
 use Rattle.visit.specs.declared.Line.{Line}
 use Rattle.visit.specs.declared.Visit.{Visit}
 
@@ -12,7 +12,7 @@ FitsIn k s l = (l.visits + k < 2 ^ 64) × (l.sum + s < 2 ^ 64)
 pub record Fits (k s : ℕ) (ls : List Line) : Type 0 where
   pub visits : k < 2 ^ 64
   pub sum : s < 2 ^ 64
-  pub lines : All (FitsIn k s) ls
+  pub lines : AllByRecursion (FitsIn k s) ls
 
 -- The sum of visits.
 abbrev pub sums : List Visit → ℕ

@@ -1,6 +1,6 @@
 -- On visits that are in order and apart: the near ones stand together, and are near to the visit as it began.
 use Rattle.std.proofs.Common.{◌≡◌, ℕ, suc, ◌+◌, ◌≤◌, true, false, cond, List, [], ◌∷◌, ◌++◌, length, take, drop, sym, refl, ap, ◌∙◌, arith}
-use Rattle.std.specs.List.{AllByRecursion as All}
+use Rattle.std.specs.List.{AllByRecursion}
 use Rattle.std.proofs.ByRecursion.{All-weaker}
 use Rattle.std.proofs.lemmas.List.{drop_at, length-take-le, take_at}
 use Rattle.std.proofs.lemmas.Bool.Decides.{nat_tests}
@@ -64,11 +64,11 @@ alike_merged t u g x h k n w b =
           unpassed_merged t g x k n w b.0 (same ∙ far) ∙ sym (unpassed_near t g x h k n w b.0 far) ∙ b.1.1 f,
     )
 
-all_behind : (t : Terms) (x : Visit) (ws : List Visit) → Apart t (x ∷ ws) → All (Behind t x) ws
+all_behind : (t : Terms) (x : Visit) (ws : List Visit) → Apart t (x ∷ ws) → AllByRecursion (Behind t x) ws
 all_behind t x ws p = all_both (WellBefore t x) (λ w. w.from ≤ w.to) ws p.1 (model.apart_order t ws (apart_model t ws p.2))
 
 -- Behind a near visit none is passed.
-none_passed : (t : Terms) (u : Visit) (ws : List Visit) → All (λ w. near t u w ≡ false → visit_before t w u ≡ false) ws → passed t u ws ≡ 0
+none_passed : (t : Terms) (u : Visit) (ws : List Visit) → AllByRecursion (λ w. near t u w ≡ false → visit_before t w u ≡ false) ws → passed t u ws ≡ 0
 none_passed t u [] a = refl
 none_passed t u (w ∷ ws) a = split (near t u w) (λ n. simp n (none_passed t u ws a.1)) (λ n. simp (n, a.0 n))
 
@@ -78,7 +78,7 @@ pub record AsBegan (t : Terms) (g u : Visit) (vs : List Visit) : Type 0 where
   pub place : place_of t g vs ≡ passed t u vs
   pub lasting : left_over t g vs ≡ take (passed t u vs) vs ++ drop (passed t u vs + length (met t u vs)) vs
 
-as_began : (t : Terms) (g u : Visit) (vs : List Visit) → g.from ≤ g.to → u.from ≤ u.to → All (Alike t g u) vs → Apart t vs → AsBegan t g u vs
+as_began : (t : Terms) (g u : Visit) (vs : List Visit) → g.from ≤ g.to → u.from ≤ u.to → AllByRecursion (Alike t g u) vs → Apart t vs → AsBegan t g u vs
 as_began t g u [] h k a p = record { taken = refl; place = refl; lasting = refl }
 as_began t g u (w ∷ ws) h k a p =
     let m = length (met t u ws) in
@@ -111,7 +111,7 @@ as_began t g u (w ∷ ws) h k a p =
     })
     (λ b. let after = a.0.1 n ∙ b in record { taken = simp (far, after, n, b); place = simp (far, after, n, b); lasting = simp (far, after, n, b) }))
 
-itself_alike : (t : Terms) (u : Visit) (vs : List Visit) → All (Alike t u u) vs
+itself_alike : (t : Terms) (u : Visit) (vs : List Visit) → AllByRecursion (Alike t u u) vs
 itself_alike t u [] = tt
 itself_alike t u (v ∷ vs) = ((refl, λ _. refl), itself_alike t u vs)
 

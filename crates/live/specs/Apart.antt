@@ -1,6 +1,6 @@
 -- Visits that are in order and apart, and those that are gathered to be merged into one.
 use Rattle.std.specs.Prelude.{◌≡◌, ◌+◌, ◌<◌, ◌≤◌, List, [], ◌∷◌, take, slice_index_or}
-use Rattle.std.specs.List.{AllByRecursion as All}
+use Rattle.std.specs.List.{AllByRecursion}
 use Rattle.visit.specs.declared.Terms.{Terms}
 use Rattle.visit.specs.declared.Visit.{Visit}
 use Rattle.visit.specs.Readings.{gap_of}
@@ -15,7 +15,7 @@ WellBefore t v w = (v.card ≤ w.card) × (v.card ≡ w.card → v.to + gap_of t
 -- Each visit begins no later than it ends, and is well before all that follow.
 abbrev pub Apart : Terms → List Visit → Type 0
 Apart t [] = Unit {0}
-Apart t (v ∷ vs) = (v.from ≤ v.to) × All (WellBefore t v) vs × Apart t vs
+Apart t (v ∷ vs) = (v.from ≤ v.to) × AllByRecursion (WellBefore t v) vs × Apart t vs
 
 -- The first that is gathered: the visit that is to be merged in.
 abbrev pub own : Gathered → Visit

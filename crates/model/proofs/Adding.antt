@@ -1,6 +1,6 @@
 -- Changes add up: taking out what is retracted and putting in what is added gives the closed visits.
 use Rattle.std.proofs.Common.{◌≡◌, ◌≤◌, Bool, true, false, not, ◌&&◌, List, [], ◌∷◌, Ok, Err, Decides, filter, Result, sym, refl, ap, ◌∙◌, subst, arith}
-use Rattle.std.specs.List.{ContainsAt as Has, AllByRecursion as All}
+use Rattle.std.specs.List.{ContainsAt as Has, AllByRecursion}
 use Rattle.std.proofs.ByRecursion.{all_has_itself, all_kept_by, All-weaker, kept_by_passes}
 use Rattle.std.proofs.lemmas.Bool.{both_ways, not-true}
 use Rattle.std.proofs.lemmas.Bool.Decides.{nat_tests}
@@ -50,11 +50,11 @@ same_in t vs ws r s e =
     (λ z h. (in_decides t z ws).0 (sym (e z) ∙ (in_decides t z vs).1 h)) (λ z h. (in_decides t z vs).0 (e z ∙ (in_decides t z ws).1 h))
 
 -- What is before all others stays in front, and what is put in before all others goes there.
-put_all_behind : (t : Terms) (b : Visit) (ns vs : List Visit) → All (λ n. visit_before t b n ≡ true) ns → put_all_in t ns (b ∷ vs) ≡ b ∷ put_all_in t ns vs
+put_all_behind : (t : Terms) (b : Visit) (ns vs : List Visit) → AllByRecursion (λ n. visit_before t b n ≡ true) ns → put_all_in t ns (b ∷ vs) ≡ b ∷ put_all_in t ns vs
 put_all_behind t b [] vs a = refl
 put_all_behind t b (n ∷ ns) vs a = simp a.0 (put_all_behind t b ns (put_in t n vs) a.1)
 
-put_in_front : (t : Terms) (b : Visit) (vs : List Visit) → All (λ v. visit_before t b v ≡ true) vs → put_in t b vs ≡ b ∷ vs
+put_in_front : (t : Terms) (b : Visit) (vs : List Visit) → AllByRecursion (λ v. visit_before t b v ≡ true) vs → put_in t b vs ≡ b ∷ vs
 put_in_front t b [] a = refl
 put_in_front t b (v ∷ vs) a =
     let h : visit_before t v b ≡ false = split (visit_before t v b) (λ o. absurd (visit_strict t b v a.0 o)) (λ o. o) in simp h

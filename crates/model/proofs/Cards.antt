@@ -1,6 +1,6 @@
 -- Cards have nothing to do with each other: the part of a state that some cards have.
 use Rattle.std.proofs.Common.{◌≡◌, ℕ, Bool, true, false, ltb, List, [], ◌∷◌, filter, sym, refl, ap, ◌∙◌, arith}
-use Rattle.std.specs.List.{AllByRecursion as All}
+use Rattle.std.specs.List.{AllByRecursion}
 use Rattle.std.proofs.ByRecursion.{all_kept_by, All-weaker}
 use Rattle.std.proofs.lemmas.Bool.{both_ways}
 use Rattle.std.proofs.lemmas.Bool.Decides.{nat_tests}
@@ -44,7 +44,7 @@ contains_by t p e (x ∷ xs) h =
     (λ o. let q = other_reading t e x (apart_by p e.card x.card h o) in simp (o, q, ih))
 
 -- A reading that no reading is before goes to the front.
-insert_front : (t : Terms) (e : Reading) (xs : List Reading) → All (λ x. reading_before t x e ≡ false) xs → insert_reading t e xs ≡ e ∷ xs
+insert_front : (t : Terms) (e : Reading) (xs : List Reading) → AllByRecursion (λ x. reading_before t x e ≡ false) xs → insert_reading t e xs ≡ e ∷ xs
 insert_front t e [] a = refl
 insert_front t e (x ∷ xs) a = simp a.0
 
@@ -60,7 +60,7 @@ insert_by t p e (x ∷ xs) s h =
     split (reading_before t x e)
     (λ b. split (p x.card) (λ o. simp (b, o, ih)) (λ o. simp (b, o, ih)))
     (λ b.
-    let a : All (λ y. reading_before t y e ≡ false) (x ∷ xs) = (b, All-weaker (λ y. reading_before t x y ≡ true) (λ y. reading_before t y e ≡ false) (not_before t e x b) xs s.0) in
+    let a : AllByRecursion (λ y. reading_before t y e ≡ false) (x ∷ xs) = (b, All-weaker (λ y. reading_before t x y ≡ true) (λ y. reading_before t y e ≡ false) (not_before t e x b) xs s.0) in
     let f = insert_front t e (readings_by p (x ∷ xs)) (all_kept_by (λ y. p y.card) (λ y. reading_before t y e ≡ false) (x ∷ xs) a) in
     let g : readings_by p (insert_reading t e (x ∷ xs)) ≡ e ∷ readings_by p (x ∷ xs) = simp (b, h) in
     g ∙ sym f)
@@ -80,11 +80,11 @@ other_joins : (t : Terms) (e : Reading) (v : Visit) → NotAfter e v → (e.card
 unfolding joins
 other_joins t e v n h w f = grind (arith, nat_tests)
 
-prepend_alone : (t : Terms) (e : Reading) (vs : List Visit) → All (λ v. joins t e v ≡ false) vs → prepend t e vs ≡ single e ∷ vs
+prepend_alone : (t : Terms) (e : Reading) (vs : List Visit) → AllByRecursion (λ v. joins t e v ≡ false) vs → prepend t e vs ≡ single e ∷ vs
 prepend_alone t e [] a = refl
 prepend_alone t e (v ∷ vs) a = simp a.0
 
-prepend_by : (t : Terms) (p : ℕ → Bool) (e : Reading) (vs : List Visit) → All (NotAfter e) vs → Apart t vs → p e.card ≡ true
+prepend_by : (t : Terms) (p : ℕ → Bool) (e : Reading) (vs : List Visit) → AllByRecursion (NotAfter e) vs → Apart t vs → p e.card ≡ true
     → visits_by p (prepend t e vs) ≡ prepend t e (visits_by p vs)
 prepend_by t p e [] n a h = simp h
 prepend_by t p e (v ∷ vs) n a h =

@@ -1,6 +1,6 @@
 -- What a command changes among the closed visits.
 use Rattle.std.proofs.Common.{◌≡◌, ℕ, ◌<◌, ◌≤◌, true, false, not, ltb, List, [], ◌∷◌, ◌++◌, sym, refl, ap, ◌∙◌, subst, arith}
-use Rattle.std.specs.List.{AllByRecursion as All}
+use Rattle.std.specs.List.{AllByRecursion}
 use Rattle.std.proofs.lemmas.List.Elements.{filter-append}
 use Rattle.std.proofs.ByRecursion.{all_kept_by, All-weaker, kept_by_passes}
 use Rattle.std.proofs.lemmas.List.{append-nil}
@@ -35,18 +35,18 @@ absent_parts : (t : Terms) (xs ys : List Visit) (v : Visit) → Absent t (xs ++ 
 absent_parts t xs ys v h = or_parts (some (same_visit t v) xs) (some (same_visit t v) ys) (sym (some_append (same_visit t v) xs ys) ∙ h)
 
 -- The difference of lists of which one part is in the other, or absent from it.
-pub difference_none : (t : Terms) (vs ws : List Visit) → All (In t ws) vs → difference t vs ws ≡ []
+pub difference_none : (t : Terms) (vs ws : List Visit) → AllByRecursion (In t ws) vs → difference t vs ws ≡ []
 difference_none t [] ws a = refl
 difference_none t (v ∷ vs) ws a = simp (a.0, difference_none t vs ws a.1)
 
-pub difference_all : (t : Terms) (vs ws : List Visit) → All (Absent t ws) vs → difference t vs ws ≡ vs
+pub difference_all : (t : Terms) (vs ws : List Visit) → AllByRecursion (Absent t ws) vs → difference t vs ws ≡ vs
 difference_all t [] ws a = refl
 difference_all t (v ∷ vs) ws a = simp (a.0, difference_all t vs ws a.1)
 
 difference_append : (t : Terms) (us vs ws : List Visit) → difference t (us ++ vs) ws ≡ difference t us ws ++ difference t vs ws
 difference_append t us vs ws = filter-append (λ v. not (some (same_visit t v) ws)) us vs
 
-difference_middle : (t : Terms) (ps ms zs ss : List Visit) → All (Absent t (ps ++ (zs ++ ss))) ms → difference t (ps ++ (ms ++ ss)) (ps ++ (zs ++ ss)) ≡ ms
+difference_middle : (t : Terms) (ps ms zs ss : List Visit) → AllByRecursion (Absent t (ps ++ (zs ++ ss))) ms → difference t (ps ++ (ms ++ ss)) (ps ++ (zs ++ ss)) ≡ ms
 difference_middle t ps ms zs ss a =
     let whole : List Visit = ps ++ (zs ++ ss) in
     let p : difference t ps whole ≡ [] = difference_none t ps whole (All-weaker (In t ps) (In t whole) (in_left t ps (zs ++ ss)) ps (all_in t ps)) in
@@ -58,11 +58,11 @@ difference_middle t ps ms zs ss a =
     ∙ (difference_append t ms ss whole ∙ (ap (λ (l : List Visit). l ++ difference t ss whole) m ∙ (ap (λ (l : List Visit). ms ++ l) s ∙ append-nil ms))))
 
 -- In visits that are apart none stands twice.
-all_here : {X : Type 0} (P : X → Type 0) (xs ys : List X) (y : X) → All P (xs ++ (y ∷ ys)) → P y
+all_here : {X : Type 0} (P : X → Type 0) (xs ys : List X) (y : X) → AllByRecursion P (xs ++ (y ∷ ys)) → P y
 all_here P [] ys y a = a.0
 all_here P (x ∷ xs) ys y a = all_here P xs ys y a.1
 
-all_without : {X : Type 0} (P : X → Type 0) (xs ys : List X) (y : X) → All P (xs ++ (y ∷ ys)) → All P (xs ++ ys)
+all_without : {X : Type 0} (P : X → Type 0) (xs ys : List X) (y : X) → AllByRecursion P (xs ++ (y ∷ ys)) → AllByRecursion P (xs ++ ys)
 all_without P [] ys y a = a.1
 all_without P (x ∷ xs) ys y a = (a.0, all_without P xs ys y a.1)
 
@@ -76,7 +76,7 @@ absent_around t (x ∷ ps) ss v p =
     let r = absent_around t ps ss v p.2 in
     (simp (follows_differs t x v p.0 (all_here (Follows t x) ps ss v p.1)).1 r.0, r.1)
 
-absent_others : (t : Terms) (ps ms ss : List Visit) → Apart t (ps ++ (ms ++ ss)) → All (λ v. Absent t ps v × Absent t ss v) ms
+absent_others : (t : Terms) (ps ms ss : List Visit) → Apart t (ps ++ (ms ++ ss)) → AllByRecursion (λ v. Absent t ps v × Absent t ss v) ms
 absent_others t ps [] ss p = tt
 absent_others t ps (v ∷ ms) ss p =
     let r = absent_around t ps (ms ++ ss) v p in
@@ -92,17 +92,17 @@ closed_absent t m ps zs ss v p z s =
     absent_append t (closed_visits t m ps) (closed_visits t m zs ++ closed_visits t m ss) v (out ps p) (absent_append t (closed_visits t m zs) (closed_visits t m ss) v (out zs z) (out ss s))
 
 -- Visits replaced in the middle: of the closed ones, just those of the middle are missed.
-replaced : (t : Terms) (m : ℕ) (ps ms zs ss : List Visit) → Apart t (ps ++ (ms ++ ss)) → All (Absent t zs) ms
+replaced : (t : Terms) (m : ℕ) (ps ms zs ss : List Visit) → Apart t (ps ++ (ms ++ ss)) → AllByRecursion (Absent t zs) ms
     → difference t (closed_visits t m (ps ++ (ms ++ ss))) (closed_visits t m (ps ++ (zs ++ ss))) ≡ closed_visits t m ms
 replaced t m ps ms zs ss p a =
     let c : List Visit → List Visit = closed_visits t m in
     let away = all_both (λ v. Absent t ps v × Absent t ss v) (Absent t zs) ms (absent_others t ps ms ss p) a in
-    let none : All (Absent t (c ps ++ (c zs ++ c ss))) ms = All-weaker _ (Absent t (c ps ++ (c zs ++ c ss))) (λ v h. closed_absent t m ps zs ss v h.0.0 h.1 h.0.1) ms away in
+    let none : AllByRecursion (Absent t (c ps ++ (c zs ++ c ss))) ms = All-weaker _ (Absent t (c ps ++ (c zs ++ c ss))) (λ v h. closed_absent t m ps zs ss v h.0.0 h.1 h.0.1) ms away in
     simp (closed_parts t m ps ms ss, closed_parts t m ps zs ss)
     (difference_middle t (c ps) (c ms) (c zs) (c ss) (all_kept_by (closed t m) (Absent t (c ps ++ (c zs ++ c ss))) ms none))
 
 changes_replaced : (t : Terms) (m : ℕ) (vs ws ps ms zs ss : List Visit) → vs ≡ ps ++ (ms ++ ss) → ws ≡ ps ++ (zs ++ ss) → Apart t vs → Apart t ws
-    → All (Absent t zs) ms → All (Absent t ms) zs → changes t (closed_visits t m vs) (closed_visits t m ws) ≡ changed (closed_visits t m ms) (closed_visits t m zs)
+    → AllByRecursion (Absent t zs) ms → AllByRecursion (Absent t ms) zs → changes t (closed_visits t m vs) (closed_visits t m ws) ≡ changed (closed_visits t m ms) (closed_visits t m zs)
 changes_replaced t m vs ws ps ms zs ss p q h k a b =
     let gone : difference t (closed_visits t m vs) (closed_visits t m ws) ≡ closed_visits t m ms =
     rw (p, q) (replaced t m ps ms zs ss (subst (Apart t) p h) a) in
@@ -115,7 +115,7 @@ with_count : (u : Visit) (ms : List Visit) → u.count ≤ (merged_with u ms).co
 with_count u [] = omega arith
 with_count u (v ∷ ms) = omega (arith, with_count (merged u v) ms)
 
-with_counts : (u : Visit) (ms : List Visit) → 1 ≤ u.count → All (λ v. v.count < (merged_with u ms).count) ms
+with_counts : (u : Visit) (ms : List Visit) → 1 ≤ u.count → AllByRecursion (λ v. v.count < (merged_with u ms).count) ms
 with_counts u [] h = tt
 with_counts u (v ∷ ms) h = (omega (arith, with_count (merged u v) ms), with_counts (merged u v) ms (omega arith))
 
@@ -126,7 +126,7 @@ with_to u (v ∷ ms) = omega (arith, with_to (merged u v) ms)
 fewer_absent : (t : Terms) (z v : Visit) → v.count < z.count → Absent t (z ∷ []) v
 fewer_absent t z v h = simp (fewer_differs t z v h).0
 
-absent_fewer : (t : Terms) (z : Visit) (ms : List Visit) → All (λ v. v.count < z.count) ms → Absent t ms z
+absent_fewer : (t : Terms) (z : Visit) (ms : List Visit) → AllByRecursion (λ v. v.count < z.count) ms → Absent t ms z
 absent_fewer t z [] a = refl
 absent_fewer t z (v ∷ ms) a = simp (fewer_differs t z v a.0).1 (absent_fewer t z ms a.1)
 
@@ -138,7 +138,7 @@ merging_changes t m e vs p =
     let r = merge_shape t (single e) vs (omega arith) p in
     let ms : List Visit = near_ones t (single e) vs in
     let z : Visit = merged_with (single e) ms in
-    let n : All (λ v. v.count < z.count) ms = with_counts (single e) ms (omega arith) in
+    let n : AllByRecursion (λ v. v.count < z.count) ms = with_counts (single e) ms (omega arith) in
     changes_replaced t m vs (merge_in t (single e) vs) r.front ms (z ∷ []) r.back r.parts r.result p (merge_keeps_apart t (single e) vs (omega arith) p)
     (All-weaker (λ v. v.count < z.count) (Absent t (z ∷ [])) (fewer_absent t z) ms n) (absent_fewer t z ms n, tt)
 
@@ -198,7 +198,7 @@ open_before : (t : Terms) (m n : ℕ) (v : Visit) → m ≤ n → closed t n v �
 unfolding closed
 open_before t m n v h o = grind (arith, nat_tests)
 
-closed_in : (t : Terms) (m n : ℕ) (vs : List Visit) → m ≤ n → All (In t (closed_visits t n vs)) (closed_visits t m vs)
+closed_in : (t : Terms) (m n : ℕ) (vs : List Visit) → m ≤ n → AllByRecursion (In t (closed_visits t n vs)) (closed_visits t m vs)
 closed_in t m n [] h = tt
 closed_in t m n (v ∷ vs) h =
     let now : List Visit = closed_visits t n vs in

@@ -5,7 +5,7 @@ use mathlib.Core.List.{List, [], ◌∷◌, ◌++◌}
 use Prim.Native.Nat.{ℕ, ◌<◌, ◌≤◌}
 use native.Mathlib.Omega.{arith}
 use lib.ListN.{length}
-use Rattle.std.specs.List.{filter, AllByRecursion as All}
+use Rattle.std.specs.List.{filter, AllByRecursion}
 use Rattle.std.proofs.ByRecursion.{All-weaker}
 use Rattle.std.proofs.lemmas.List.Filters.{length-filter_both}
 use Rattle.std.proofs.lemmas.Bool.{and_right, both_ways, or_right}
@@ -21,12 +21,12 @@ split true f g = f refl
 split false f g = g refl
 
 -- Two things that hold of all elements.
-pub all_both : {X : Type 0} (P Q : X → Type 0) (xs : List X) → All P xs → All Q xs → All (λ x. P x × Q x) xs
+pub all_both : {X : Type 0} (P Q : X → Type 0) (xs : List X) → AllByRecursion P xs → AllByRecursion Q xs → AllByRecursion (λ x. P x × Q x) xs
 all_both P Q [] a b = tt
 all_both P Q (x ∷ xs) a b = ((a.0, b.0), all_both P Q xs a.1 b.1)
 
 -- Filters: tests that agree, on the elements or on all there are, keep the same; a test that none passes keeps none.
-pub kept_agree : {X : Type 0} (p q : X → Bool) (xs : List X) → All (λ x. p x ≡ q x) xs → filter p xs ≡ filter q xs
+pub kept_agree : {X : Type 0} (p q : X → Bool) (xs : List X) → AllByRecursion (λ x. p x ≡ q x) xs → filter p xs ≡ filter q xs
 kept_agree p q [] a = refl
 kept_agree p q (x ∷ xs) a = simp (a.0, kept_agree p q xs a.1)
 
@@ -34,7 +34,7 @@ pub kept_alike : {X : Type 0} (p q : X → Bool) → ((x : X) → p x ≡ q x) �
 kept_alike p q h [] = refl
 kept_alike p q h (x ∷ xs) = simp (h x, kept_alike p q h xs)
 
-pub kept_none : {X : Type 0} (p : X → Bool) (xs : List X) → All (λ x. p x ≡ false) xs → filter p xs ≡ []
+pub kept_none : {X : Type 0} (p : X → Bool) (xs : List X) → AllByRecursion (λ x. p x ≡ false) xs → filter p xs ≡ []
 kept_none p [] a = refl
 kept_none p (x ∷ xs) a = simp (a.0, kept_none p xs a.1)
 
@@ -85,12 +85,12 @@ Absent t ws v = some (same_visit t v) ws ≡ false
 pub in_more : (t : Terms) (v : Visit) (vs : List Visit) (w : Visit) → In t vs w → In t (v ∷ vs) w
 in_more t v vs w h = or_right (same_visit t w v) (some (same_visit t w) vs) h
 
-pub all_in : (t : Terms) (vs : List Visit) → All (In t vs) vs
+pub all_in : (t : Terms) (vs : List Visit) → AllByRecursion (In t vs) vs
 all_in t [] = tt
 all_in t (v ∷ vs) = (simp (same_itself t v), All-weaker (In t vs) (In t (v ∷ vs)) (in_more t v vs) vs (all_in t vs))
 
 -- What holds of all in a list holds of a visit in it.
-pub all_some : (t : Terms) (P : Visit → Type 0) (v : Visit) (ws : List Visit) → All P ws → In t ws v → P v
+pub all_some : (t : Terms) (P : Visit → Type 0) (v : Visit) (ws : List Visit) → AllByRecursion P ws → In t ws v → P v
 all_some t P v [] a h = absurd (both_ways false refl h)
 all_some t P v (w ∷ ws) a h =
     split (same_visit t v w) (λ o. subst P (sym (same_visits t v w o)) a.0) (λ o. all_some t P v ws a.1 (sym (ap (λ (b : Bool). b || some (same_visit t v) ws) o) ∙ h))

@@ -1,7 +1,7 @@
 -- Expired visits and readings that are too late change nothing that a command does.
 use Rattle.std.proofs.Common.{◌≡◌, ℕ, ◌<◌, ◌≤◌, Bool, true, false, not, ◌&&◌, List, [], ◌∷◌, filter, sym, refl, ap, ◌∙◌, arith}
 use mathlib.Core.Bool.{and_assoc}
-use Rattle.std.specs.List.{AllByRecursion as All}
+use Rattle.std.specs.List.{AllByRecursion}
 use Rattle.std.proofs.ByRecursion.{All-weaker}
 use Rattle.std.proofs.lemmas.Bool.Decides.{nat_tests}
 use Rattle.visit.specs.declared.Reading.{Reading}
@@ -45,7 +45,7 @@ timely_near t m e h v n = grind (arith, nat_tests)
 
 -- A visit reaches only live ones of a list: all that are near to it are live.
 abbrev pub ReachesLive : Terms → ℕ → Visit → List Visit → Type 0
-ReachesLive t m u vs = All (λ v. near t u v ≡ true → live t m v ≡ true) vs
+ReachesLive t m u vs = AllByRecursion (λ v. near t u v ≡ true → live t m v ≡ true) vs
 
 pub timely_reaches : (t : Terms) (m : ℕ) (e : Reading) → too_late t m e ≡ false → (vs : List Visit) → ReachesLive t m (single e) vs
 timely_reaches t m e h [] = tt
@@ -61,7 +61,7 @@ merged_near : (t : Terms) (m : ℕ) (u w : Visit) → near t u w ≡ true → li
 unfolding live expired near gap_of
 merged_near t m u w n l x f q = grind (arith, nat_tests)
 
-pub merged_reaches : (t : Terms) (m : ℕ) (u w : Visit) (ws : List Visit) → near t u w ≡ true → live t m w ≡ true → All (Follows t w) ws → Apart t ws
+pub merged_reaches : (t : Terms) (m : ℕ) (u w : Visit) (ws : List Visit) → near t u w ≡ true → live t m w ≡ true → AllByRecursion (Follows t w) ws → Apart t ws
     → ReachesLive t m (merged u w) ws
 merged_reaches t m u w ws n l a p =
     All-weaker (λ x. (x.from ≤ x.to) × Follows t w x) (λ x. near t (merged u w) x ≡ true → live t m x ≡ true) (merged_near t m u w n l) ws (all_both (λ x. x.from ≤ x.to) (Follows t w) ws (apart_order t ws p) a)
@@ -76,7 +76,7 @@ card_far : (t : Terms) (u w x : Visit) → u.card < w.card → Follows t w x →
 unfolding near visit_before
 card_far t u w x h f = (grind (arith, nat_tests), grind (arith, nat_tests))
 
-stays_first : (t : Terms) (m : ℕ) (u w : Visit) (xs : List Visit) → u.card < w.card → All (Follows t w) xs → merge_in t u (live_only t m xs) ≡ u ∷ live_only t m xs
+stays_first : (t : Terms) (m : ℕ) (u w : Visit) (xs : List Visit) → u.card < w.card → AllByRecursion (Follows t w) xs → merge_in t u (live_only t m xs) ≡ u ∷ live_only t m xs
 stays_first t m u w [] h a = refl
 stays_first t m u w (x ∷ xs) h a =
     let f = card_far t u w x h a.0 in
@@ -171,7 +171,7 @@ unfolding too_late reading_before
 late_stop t m e x y h k o b = grind (arith, nat_tests)
 
 insert_first : (t : Terms) (m : ℕ) (e x : Reading) (ys : List Reading) → too_late t m e ≡ false → too_late t m x ≡ true → reading_before t x e ≡ false
-    → All (λ y. reading_before t x y ≡ true) ys → insert_reading t e (kept_only t m ys) ≡ e ∷ kept_only t m ys
+    → AllByRecursion (λ y. reading_before t x y ≡ true) ys → insert_reading t e (kept_only t m ys) ≡ e ∷ kept_only t m ys
 insert_first t m e x [] h k o a = refl
 insert_first t m e x (y ∷ ys) h k o a =
     let b = late_stop t m e x y h k o a.0 in

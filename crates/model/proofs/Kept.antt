@@ -1,6 +1,6 @@
 -- What the store keeps: how much, and for what.
 use Rattle.std.proofs.Common.{◌≡◌, ℕ, zero, suc, ◌+◌, ◌-◌, ◌<◌, ◌≤◌, max, Bool, true, false, not, ◌||◌, eqb, leb, List, [], ◌∷◌, length, filter, sym, refl, ap, ◌∙◌, subst, arith}
-use Rattle.std.specs.List.{AllByRecursion as All}
+use Rattle.std.specs.List.{AllByRecursion}
 use Rattle.std.proofs.ByRecursion.{All-weaker, kept_by_passes}
 use Rattle.std.proofs.lemmas.List.{nil_from_length}
 use Rattle.std.proofs.lemmas.Bool.{both_ways, or_parts, or_right}
@@ -83,7 +83,7 @@ kept_timely : (t : Terms) (m : ℕ) (e : Reading) → kept t m e ≡ true → to
 unfolding kept too_late
 kept_timely t m e h = grind (arith, nat_tests)
 
-kept_again : (t : Terms) (m : ℕ) (es : List Reading) → All (λ e. (too_late t m e ≡ false) × (contains t e (kept_only t m es) ≡ true)) (kept_only t m es)
+kept_again : (t : Terms) (m : ℕ) (es : List Reading) → AllByRecursion (λ e. (too_late t m e ≡ false) × (contains t e (kept_only t m es) ≡ true)) (kept_only t m es)
 kept_again t m [] = tt
 kept_again t m (e ∷ es) =
     let ih = kept_again t m es in

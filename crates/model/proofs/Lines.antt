@@ -1,6 +1,6 @@
 -- The ledger by card and day: its keys rise, and each line has the number and the sum of its visits.
 use Rattle.std.proofs.Common.{◌≡◌, ℕ, ◌+◌, ◌-◌, ◌≤◌, Bool, true, false, cond, ◌&&◌, eqb, List, [], ◌∷◌, length, sum_by, filter, refl, ap, ◌∙◌, arith}
-use Rattle.std.specs.List.{AllByRecursion as All}
+use Rattle.std.specs.List.{AllByRecursion}
 use Rattle.std.proofs.ByRecursion.{All-weaker}
 use Rattle.std.proofs.lemmas.List.Sums.{sum_by-cons}
 use Rattle.std.proofs.lemmas.Bool.Decides.{nat_tests}
@@ -19,7 +19,7 @@ before_plus : (t : Terms) (l x a : Line) → line_before t l x ≡ true → line
 unfolding line_before
 before_plus t l x a h = h
 
-before_line : (t : Terms) (l a : Line) (xs : List Line) → line_before t l a ≡ true → All (λ x. line_before t l x ≡ true) xs → All (λ x. line_before t l x ≡ true) (add_line t a xs)
+before_line : (t : Terms) (l a : Line) (xs : List Line) → line_before t l a ≡ true → AllByRecursion (λ x. line_before t l x ≡ true) xs → AllByRecursion (λ x. line_before t l x ≡ true) (add_line t a xs)
 before_line t l a [] h b = (h, tt)
 before_line t l a (x ∷ xs) h b =
     let ih = before_line t l a xs h b.1 in
@@ -60,7 +60,7 @@ before_minus : (t : Terms) (l x a : Line) → line_before t l x ≡ true → lin
 unfolding line_before
 before_minus t l x a h = h
 
-before_take : (t : Terms) (l a : Line) (xs : List Line) → All (λ x. line_before t l x ≡ true) xs → All (λ x. line_before t l x ≡ true) (take_line t a xs)
+before_take : (t : Terms) (l a : Line) (xs : List Line) → AllByRecursion (λ x. line_before t l x ≡ true) xs → AllByRecursion (λ x. line_before t l x ≡ true) (take_line t a xs)
 before_take t l a [] b = tt
 before_take t l a (x ∷ xs) b =
     let ih = before_take t l a xs b.1 in
@@ -146,7 +146,7 @@ other_key : (t : Terms) (card day : ℕ) (l x : Line) → has_key card day l ≡
 unfolding line_before
 other_key t card day l x h b = grind (arith, nat_tests)
 
-none_after : (t : Terms) (card day : ℕ) (l : Line) (ls : List Line) → has_key card day l ≡ true → All (λ x. line_before t l x ≡ true) ls → lines_for card day ls ≡ []
+none_after : (t : Terms) (card day : ℕ) (l : Line) (ls : List Line) → has_key card day l ≡ true → AllByRecursion (λ x. line_before t l x ≡ true) ls → lines_for card day ls ≡ []
 none_after t card day l ls h a =
     kept_none (has_key card day) ls (All-weaker (λ x. line_before t l x ≡ true) (λ x. has_key card day x ≡ false) (λ x b. other_key t card day l x h b) ls a)
 

@@ -1,6 +1,6 @@
 -- A visit merged into visits that are in order and apart.
 use Rattle.std.proofs.Common.{◌≡◌, ◌≤◌, true, false, cond, List, [], ◌∷◌, ◌++◌, length, sym, refl, ap, ◌∙◌, arith}
-use Rattle.std.specs.List.{AllByRecursion as All}
+use Rattle.std.specs.List.{AllByRecursion}
 use Rattle.std.proofs.ByRecursion.{All-weaker}
 use Rattle.std.proofs.lemmas.Bool.{cond-false, cond-true}
 use Rattle.std.proofs.lemmas.Bool.Decides.{nat_tests}
@@ -51,7 +51,7 @@ follows_far : (t : Terms) (u v : Visit) → u.from ≤ u.to → v.from ≤ v.to 
 unfolding near visit_before
 follows_far t u v h k f = (grind (arith, nat_tests), grind (arith, nat_tests))
 
-pub merge_apart : (t : Terms) (u : Visit) (vs : List Visit) → u.from ≤ u.to → All (Follows t u) vs → Apart t vs → merge_in t u vs ≡ u ∷ vs
+pub merge_apart : (t : Terms) (u : Visit) (vs : List Visit) → u.from ≤ u.to → AllByRecursion (Follows t u) vs → Apart t vs → merge_in t u vs ≡ u ∷ vs
 merge_apart t u [] h a p = refl
 merge_apart t u (v ∷ vs) h a p = let q = follows_far t u v h p.0 a.0 in simp (q.0, q.1)
 
@@ -88,7 +88,7 @@ grown_merged t x w v o n l =
     let k : x.time ≤ v.from = grind (arith, nat_tests) in
     same_parts (merged (grown x w) v) (grown x (merged w v)) refl (omega arith) refl (omega arith) (omega arith)
 
-joins_through : (t : Terms) (x : Reading) (w : Visit) (vs : List Visit) → joins t x w ≡ true → w.from ≤ w.to → All (NotAfter x) vs → Apart t vs
+joins_through : (t : Terms) (x : Reading) (w : Visit) (vs : List Visit) → joins t x w ≡ true → w.from ≤ w.to → AllByRecursion (NotAfter x) vs → Apart t vs
     → prepend t x (merge_in t w vs) ≡ merge_in t (grown x w) vs
 joins_through t x w [] o h a p = simp o
 joins_through t x w (v ∷ vs) o h a p =
@@ -102,7 +102,7 @@ far_merged : (t : Terms) (x : Reading) (w v : Visit) → joins t x w ≡ false �
 unfolding near joins
 far_merged t x w v o k n = grind (arith, nat_tests)
 
-far_through : (t : Terms) (x : Reading) (w : Visit) (vs : List Visit) → joins t x w ≡ false → All (λ v. joins t x v ≡ false) vs
+far_through : (t : Terms) (x : Reading) (w : Visit) (vs : List Visit) → joins t x w ≡ false → AllByRecursion (λ v. joins t x v ≡ false) vs
     → prepend t x (merge_in t w vs) ≡ single x ∷ merge_in t w vs
 far_through t x w [] o a = simp o
 far_through t x w (v ∷ vs) o a =
@@ -137,7 +137,7 @@ joined_passed : (t : Terms) (x : Reading) (u v : Visit) → NotAfter x u → u.f
 unfolding joins near visit_before
 joined_passed t x u v l h k o n = grind (arith, nat_tests)
 
-front_joined : (t : Terms) (x : Reading) (u v : Visit) (vs : List Visit) → NotAfter x u → u.from ≤ u.to → All (NotAfter x) (v ∷ vs) → Apart t (v ∷ vs) → joins t x v ≡ true
+front_joined : (t : Terms) (x : Reading) (u v : Visit) (vs : List Visit) → NotAfter x u → u.from ≤ u.to → AllByRecursion (NotAfter x) (v ∷ vs) → Apart t (v ∷ vs) → joins t x v ≡ true
     → prepend t x (merge_in t u (v ∷ vs)) ≡ merge_in t u (grown x v ∷ vs)
 front_joined t x u v vs l h a p o =
     split (near t u v)
@@ -146,7 +146,7 @@ front_joined t x u v vs l h a p o =
     (λ n. let b = joined_passed t x u v l h p.0 o n in simp (n, b, o, passed_grown_far t x u v p.0 h n b, passed_grown t x u v a.0 o b))
 
 -- A reading that does not join the first visit joins none of them.
-front_far : (t : Terms) (x : Reading) (u v : Visit) (vs : List Visit) → u.from ≤ u.to → All (NotAfter x) (v ∷ vs) → Apart t (v ∷ vs) → joins t x v ≡ false
+front_far : (t : Terms) (x : Reading) (u v : Visit) (vs : List Visit) → u.from ≤ u.to → AllByRecursion (NotAfter x) (v ∷ vs) → Apart t (v ∷ vs) → joins t x v ≡ false
     → prepend t x (merge_in t u (v ∷ vs)) ≡ cond (joins t x u) (merge_in t (grown x u) (v ∷ vs)) (single x ∷ merge_in t u (v ∷ vs))
 front_far t x u v vs h a p o =
     let far = All-weaker (Follows t v) (λ w. joins t x w ≡ false) (follows_unjoined t x v a.0 p.0) vs p.1 in
@@ -162,7 +162,7 @@ single_first t x u vs l h =
     (λ o. simp (near_joins t x u l h, far_before t x u l o, o))
 
 -- A reading in front of all may be put there before or after the merging.
-pub front_merge : (t : Terms) (x : Reading) (u : Visit) (vs : List Visit) → NotAfter x u → u.from ≤ u.to → All (NotAfter x) vs → Apart t vs
+pub front_merge : (t : Terms) (x : Reading) (u : Visit) (vs : List Visit) → NotAfter x u → u.from ≤ u.to → AllByRecursion (NotAfter x) vs → Apart t vs
     → prepend t x (merge_in t u vs) ≡ merge_in t u (prepend t x vs)
 front_merge t x u [] l h a p = sym (single_first t x u [] l h)
 front_merge t x u (v ∷ vs) l h a p =
@@ -171,7 +171,7 @@ front_merge t x u (v ∷ vs) l h a p =
     (λ o. simp o (front_far t x u v vs h a p o ∙ sym (single_first t x u (v ∷ vs) l h)))
 
 -- A reading in front of all is merged as it is put there.
-prepend_merges : (t : Terms) (e : Reading) (vs : List Visit) → All (NotAfter e) vs → Apart t vs → prepend t e vs ≡ merge_in t (single e) vs
+prepend_merges : (t : Terms) (e : Reading) (vs : List Visit) → AllByRecursion (NotAfter e) vs → Apart t vs → prepend t e vs ≡ merge_in t (single e) vs
 prepend_merges t e [] a p = refl
 prepend_merges t e (v ∷ vs) a p =
     split (joins t e v)
@@ -179,7 +179,7 @@ prepend_merges t e (v ∷ vs) a p =
     (sym (merge_apart t (grown e v) vs (joined_time t e v a.0 p.0 o).2 p.1 p.2)))
     (λ o. simp (single_near t e v a.0 p.0, o, not_before t e v a.0))
 
-unpassed_all_readings : (t : Terms) (e x : Reading) (xs : List Reading) → reading_before t x e ≡ false → SortedReadings t (x ∷ xs) → All (λ y. NotAfter e (single y)) (x ∷ xs)
+unpassed_all_readings : (t : Terms) (e x : Reading) (xs : List Reading) → reading_before t x e ≡ false → SortedReadings t (x ∷ xs) → AllByRecursion (λ y. NotAfter e (single y)) (x ∷ xs)
 unpassed_all_readings t e x xs q s =
     (unpassed_not_after t e x q, All-weaker (λ y. reading_before t x y ≡ true) (λ y. NotAfter e (single y)) (unpassed_next t e x q) xs s.0)
 
@@ -194,7 +194,7 @@ insert_merges t e (x ∷ xs) s =
     (λ q. simp q (prepend_merges t e (visits t (x ∷ xs)) (not_after (unpassed_all_readings t e x xs q s)) (visits_apart t (x ∷ xs) s)))
 
 -- Merging keeps visits in order and apart.
-all_merge : (t : Terms) (P : Visit → Type 0) → ((a b : Visit) → near t a b ≡ true → P a → P b → P (merged a b)) → (u : Visit) (vs : List Visit) → P u → All P vs → All P (merge_in t u vs)
+all_merge : (t : Terms) (P : Visit → Type 0) → ((a b : Visit) → near t a b ≡ true → P a → P b → P (merged a b)) → (u : Visit) (vs : List Visit) → P u → AllByRecursion P vs → AllByRecursion P (merge_in t u vs)
 all_merge t P both u [] h a = (h, tt)
 all_merge t P both u (v ∷ vs) h a =
     split (near t u v)
@@ -241,7 +241,7 @@ follows_not_near : (t : Terms) (u : Visit) → (w : Visit) → Follows t u w →
 unfolding near
 follows_not_near t u w f = grind (arith, nat_tests)
 
-near_ones_same : (t : Terms) (u v : Visit) (vs : List Visit) → u.from ≤ u.to → near t u v ≡ true → v.from ≤ v.to → All (Follows t v) vs → Apart t vs
+near_ones_same : (t : Terms) (u v : Visit) (vs : List Visit) → u.from ≤ u.to → near t u v ≡ true → v.from ≤ v.to → AllByRecursion (Follows t v) vs → Apart t vs
     → near_ones t (merged u v) vs ≡ near_ones t u vs
 near_ones_same t u v vs h n k a p =
     kept_agree (near t (merged u v)) (near t u) vs
@@ -257,12 +257,12 @@ reached_near t u v vs n q r =
     let result : merge_in t (merged u v) vs ≡ merged_with (merged u v) (near_ones t u vs) ∷ r.0 = r.2 ∙ ap (λ (l : List Visit). merged_with (merged u v) l ∷ r.0) q in
     (r.0, simp n (ap (λ (l : List Visit). v ∷ l) whole), simp n result)
 
-reached_none : (t : Terms) (u : Visit) (vs : List Visit) → u.from ≤ u.to → All (Follows t u) vs → Apart t vs → Reached t u vs
+reached_none : (t : Terms) (u : Visit) (vs : List Visit) → u.from ≤ u.to → AllByRecursion (Follows t u) vs → Apart t vs → Reached t u vs
 reached_none t u vs h a p =
     let q : near_ones t u vs ≡ [] = kept_none (near t u) vs (All-weaker (Follows t u) (λ w. near t u w ≡ false) (follows_not_near t u) vs a) in
     (vs, ap (λ (l : List Visit). l ++ vs) (sym q), merge_apart t u vs h a p ∙ ap (λ (l : List Visit). merged_with u l ∷ vs) (sym q))
 
-reached : (t : Terms) (u : Visit) (vs : List Visit) → u.from ≤ u.to → Apart t vs → All (Unpassed t u) vs → Reached t u vs
+reached : (t : Terms) (u : Visit) (vs : List Visit) → u.from ≤ u.to → Apart t vs → AllByRecursion (Unpassed t u) vs → Reached t u vs
 reached t u [] h p a = ([], refl, refl)
 reached t u (v ∷ vs) h p a =
     split (near t u v)
@@ -313,7 +313,7 @@ third_far : (t : Terms) (e : Reading) (v w : Visit) → near t (single e) v ≡ 
 unfolding near
 third_far t e v w n f h x g = grind (arith, nat_tests)
 
-near_one : (t : Terms) (e : Reading) (v : Visit) (vs : List Visit) → near t (single e) v ≡ true → All (Follows t v) vs → Apart t vs → length (near_ones t (single e) vs) ≤ 1
+near_one : (t : Terms) (e : Reading) (v : Visit) (vs : List Visit) → near t (single e) v ≡ true → AllByRecursion (Follows t v) vs → Apart t vs → length (near_ones t (single e) vs) ≤ 1
 near_one t e v [] n a p = omega arith
 near_one t e v (w ∷ ws) n a p =
     let far = All-weaker (Follows t w) (λ x. near t (single e) x ≡ false) (third_far t e v w n a.0 p.0) ws p.1 in
@@ -330,21 +330,21 @@ near_two t e (v ∷ vs) p =
 
 -- The visits of two lists of readings, none of the first with any of the second in one visit, are those of each.
 abbrev pub Clear : Terms → List Reading → List Reading → Type 0
-Clear t xs ys = All (λ x. All (λ y. joins t x (single y) ≡ false) ys) xs
+Clear t xs ys = AllByRecursion (λ x. AllByRecursion (λ y. joins t x (single y) ≡ false) ys) xs
 
 unjoined_grown : (t : Terms) (x y : Reading) (v : Visit) → joins t x (single y) ≡ false → joins t y v ≡ true → joins t x (grown y v) ≡ false
 unfolding joins
 unjoined_grown t x y v o j = grind (arith, nat_tests)
 
-prepend_unjoined : (t : Terms) (x y : Reading) (vs : List Visit) → joins t x (single y) ≡ false → All (λ v. joins t x v ≡ false) vs → All (λ v. joins t x v ≡ false) (prepend t y vs)
+prepend_unjoined : (t : Terms) (x y : Reading) (vs : List Visit) → joins t x (single y) ≡ false → AllByRecursion (λ v. joins t x v ≡ false) vs → AllByRecursion (λ v. joins t x v ≡ false) (prepend t y vs)
 prepend_unjoined t x y [] o a = (o, tt)
 prepend_unjoined t x y (v ∷ vs) o a = split (joins t y v) (λ j. simp j (unjoined_grown t x y v o j, a.1)) (λ j. simp j (o, a))
 
-visits_unjoined : (t : Terms) (x : Reading) (ys : List Reading) → All (λ y. joins t x (single y) ≡ false) ys → All (λ v. joins t x v ≡ false) (visits t ys)
+visits_unjoined : (t : Terms) (x : Reading) (ys : List Reading) → AllByRecursion (λ y. joins t x (single y) ≡ false) ys → AllByRecursion (λ v. joins t x v ≡ false) (visits t ys)
 visits_unjoined t x [] a = tt
 visits_unjoined t x (y ∷ ys) a = prepend_unjoined t x y (visits t ys) a.0 (visits_unjoined t x ys a.1)
 
-prepend_append : (t : Terms) (x : Reading) (vs ws : List Visit) → All (λ v. joins t x v ≡ false) ws → prepend t x (vs ++ ws) ≡ prepend t x vs ++ ws
+prepend_append : (t : Terms) (x : Reading) (vs ws : List Visit) → AllByRecursion (λ v. joins t x v ≡ false) ws → prepend t x (vs ++ ws) ≡ prepend t x vs ++ ws
 prepend_append t x [] [] a = refl
 prepend_append t x [] (w ∷ ws) a = simp a.0
 prepend_append t x (v ∷ vs) ws a = split (joins t x v) (λ j. simp j) (λ j. simp j)

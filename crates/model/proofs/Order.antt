@@ -1,6 +1,6 @@
 -- Lists in order: readings that rise, and visits that rise and stand apart.
 use Rattle.std.proofs.Common.{◌≡◌, ◌+◌, ◌<◌, ◌≤◌, Bool, true, false, ltb, List, [], ◌∷◌, filter, refl, arith}
-use Rattle.std.specs.List.{AllByRecursion as All}
+use Rattle.std.specs.List.{AllByRecursion}
 use Rattle.std.proofs.ByRecursion.{all_kept_by, All-weaker}
 use Rattle.std.proofs.lemmas.Bool.{or_parts}
 use Rattle.std.proofs.lemmas.Bool.Decides.{nat_tests}
@@ -18,7 +18,7 @@ use Rattle.model.proofs.Common.{Absent, split}
 -- Each reading comes before all that follow it.
 abbrev pub SortedReadings : Terms → List Reading → Type 0
 SortedReadings t [] = Unit {0}
-SortedReadings t (x ∷ xs) = All (λ y. reading_before t x y ≡ true) xs × SortedReadings t xs
+SortedReadings t (x ∷ xs) = AllByRecursion (λ y. reading_before t x y ≡ true) xs × SortedReadings t xs
 
 -- A reading is not after a visit; a visit is wholly before another, by more than the gap if both are of one card.
 abbrev pub NotAfter : Reading → Visit → Type 0
@@ -30,7 +30,7 @@ Follows t v w = (v.card ≤ w.card) × (v.card ≡ w.card → v.to + gap_of t v.
 -- Visits in order and apart.
 abbrev pub Apart : Terms → List Visit → Type 0
 Apart t [] = Unit {0}
-Apart t (v ∷ vs) = (v.from ≤ v.to) × All (Follows t v) vs × Apart t vs
+Apart t (v ∷ vs) = (v.from ≤ v.to) × AllByRecursion (Follows t v) vs × Apart t vs
 
 -- A reading that comes before another is not after its visit, nor is one that does not come after.
 pub before_not_after : (t : Terms) (x y : Reading) → reading_before t x y ≡ true → NotAfter x (single y)
@@ -54,14 +54,14 @@ joined_not_after : (t : Terms) (x y : Reading) (v : Visit) → NotAfter x (singl
 unfolding joins
 joined_not_after t x y v h o = grind (arith, nat_tests)
 
-prepend_not_after : (t : Terms) (x y : Reading) (vs : List Visit) → NotAfter x (single y) → All (NotAfter x) vs → All (NotAfter x) (prepend t y vs)
+prepend_not_after : (t : Terms) (x y : Reading) (vs : List Visit) → NotAfter x (single y) → AllByRecursion (NotAfter x) vs → AllByRecursion (NotAfter x) (prepend t y vs)
 prepend_not_after t x y [] h a = (h, tt)
 prepend_not_after t x y (v ∷ vs) h a =
     split (joins t y v)
     (λ o. simp o (let k : NotAfter x (grown y v) = (a.0.0, joined_not_after t x y v h o) in (k, a.1)))
     (λ o. simp o (h, a))
 
-pub visits_not_after : (t : Terms) (x : Reading) (xs : List Reading) → All (λ y. NotAfter x (single y)) xs → All (NotAfter x) (visits t xs)
+pub visits_not_after : (t : Terms) (x : Reading) (xs : List Reading) → AllByRecursion (λ y. NotAfter x (single y)) xs → AllByRecursion (NotAfter x) (visits t xs)
 visits_not_after t x [] a = tt
 visits_not_after t x (y ∷ ys) a = prepend_not_after t x y (visits t ys) a.0 (visits_not_after t x ys a.1)
 
@@ -77,7 +77,7 @@ grown_order : (t : Terms) (x : Reading) (v : Visit) → NotAfter x v → v.from 
 unfolding joins
 grown_order t x v l h q = grind (arith, nat_tests)
 
-prepend_apart : (t : Terms) (x : Reading) (vs : List Visit) → All (NotAfter x) vs → Apart t vs → Apart t (prepend t x vs)
+prepend_apart : (t : Terms) (x : Reading) (vs : List Visit) → AllByRecursion (NotAfter x) vs → Apart t vs → Apart t (prepend t x vs)
 prepend_apart t x [] a p = (omega arith, tt, tt)
 prepend_apart t x (v ∷ vs) a p =
     split (joins t x v)
@@ -85,7 +85,7 @@ prepend_apart t x (v ∷ vs) a p =
     (λ o. simp o (omega arith, (far_follows t x v a.0 o, All-weaker (Follows t v) (Follows t (single x)) (follows_on t x v a.0 p.0) vs p.1), p))
 
 -- The visits of sorted readings are in order and apart.
-pub sorted_not_after : (t : Terms) (x : Reading) (xs : List Reading) → All (λ y. reading_before t x y ≡ true) xs → All (NotAfter x) (visits t xs)
+pub sorted_not_after : (t : Terms) (x : Reading) (xs : List Reading) → AllByRecursion (λ y. reading_before t x y ≡ true) xs → AllByRecursion (NotAfter x) (visits t xs)
 sorted_not_after t x xs a = visits_not_after t x xs (All-weaker (λ y. reading_before t x y ≡ true) (λ y. NotAfter x (single y)) (before_not_after t x) xs a)
 
 pub visits_apart : (t : Terms) (xs : List Reading) → SortedReadings t xs → Apart t (visits t xs)
@@ -93,7 +93,7 @@ visits_apart t [] s = tt
 visits_apart t (x ∷ xs) s = prepend_apart t x (visits t xs) (sorted_not_after t x xs s.0) (visits_apart t xs s.1)
 
 -- In visits that stand apart each is in order itself; so is what is made of one that is.
-pub apart_order : (t : Terms) (vs : List Visit) → Apart t vs → All (λ v. v.from ≤ v.to) vs
+pub apart_order : (t : Terms) (vs : List Visit) → Apart t vs → AllByRecursion (λ v. v.from ≤ v.to) vs
 apart_order t [] p = tt
 apart_order t (v ∷ vs) p = (p.0, apart_order t vs p.2)
 
@@ -104,14 +104,14 @@ merged_order u w h = omega arith
 follows_follows : (t : Terms) (u v : Visit) → Follows t u v → v.from ≤ v.to → (w : Visit) → Follows t v w → Follows t u w
 follows_follows t u v f h w g = (omega arith, grind arith)
 
-pub all_follow : (t : Terms) (u v : Visit) (vs : List Visit) → Follows t u v → v.from ≤ v.to → All (Follows t v) vs → All (Follows t u) vs
+pub all_follow : (t : Terms) (u v : Visit) (vs : List Visit) → Follows t u v → v.from ≤ v.to → AllByRecursion (Follows t v) vs → AllByRecursion (Follows t u) vs
 all_follow t u v vs f h a = All-weaker (Follows t v) (Follows t u) (follows_follows t u v f h) vs a
 
 pub follows_differs : (t : Terms) (v w : Visit) → v.from ≤ v.to → Follows t v w → (same_visit t v w ≡ false) × (same_visit t w v ≡ false)
 unfolding same_visit
 follows_differs t v w h f = (grind (arith, nat_tests), grind (arith, nat_tests))
 
-pub absent_behind : (t : Terms) (v : Visit) (vs : List Visit) → v.from ≤ v.to → All (Follows t v) vs → Absent t vs v
+pub absent_behind : (t : Terms) (v : Visit) (vs : List Visit) → v.from ≤ v.to → AllByRecursion (Follows t v) vs → Absent t vs v
 absent_behind t v [] h a = refl
 absent_behind t v (w ∷ ws) h a = simp ((follows_differs t v w h a.0).0, absent_behind t v ws h a.1)
 
@@ -127,7 +127,7 @@ unpassed_before : (t : Terms) (e x : Reading) → same_reading t e x ≡ false �
 unfolding same_reading reading_before
 unpassed_before t e x p q = grind (arith, nat_tests)
 
-pub all_insert : (t : Terms) (P : Reading → Type 0) (e : Reading) (xs : List Reading) → P e → All P xs → All P (insert_reading t e xs)
+pub all_insert : (t : Terms) (P : Reading → Type 0) (e : Reading) (xs : List Reading) → P e → AllByRecursion P xs → AllByRecursion P (insert_reading t e xs)
 all_insert t P e [] h a = (h, tt)
 all_insert t P e (x ∷ xs) h a = split (reading_before t x e) (λ q. simp q (a.0, all_insert t P e xs h a.1)) (λ q. simp q (h, a))
 

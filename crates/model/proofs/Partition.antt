@@ -1,6 +1,6 @@
 -- Visits are right: every reading is of exactly one visit, and a visit is what its readings make.
 use Rattle.std.proofs.Common.{◌≡◌, ℕ, zero, suc, ◌+◌, ◌<◌, ◌≤◌, Bool, true, false, cond, List, [], ◌∷◌, length, get_or, sum_by, count_by, sym, refl, ap, ◌∙◌, subst, arith}
-use Rattle.std.specs.List.{AllByRecursion as All}
+use Rattle.std.specs.List.{AllByRecursion}
 use Rattle.std.proofs.ByRecursion.{All-get_or, All-weaker}
 use Rattle.std.proofs.lemmas.List.Sums.{sum_by-cons}
 use Rattle.std.proofs.lemmas.Bool.Decides.{nat_tests}
@@ -29,7 +29,7 @@ count_out : (e : Reading) (v : Visit) (vs : List Visit) → of_visit v e ≡ fal
 count_out e v vs h =
     let q : visits_with e (v ∷ vs) ≡ 0 + visits_with e vs = sum_by-cons (λ w. cond (of_visit w e) 1 0) v vs ∙ ap (λ (b : Bool). cond b 1 0 + visits_with e vs) h in omega arith
 
-count_none : (e : Reading) (vs : List Visit) → All (λ v. of_visit v e ≡ false) vs → visits_with e vs ≡ 0
+count_none : (e : Reading) (vs : List Visit) → AllByRecursion (λ v. of_visit v e ≡ false) vs → visits_with e vs ≡ 0
 count_none e [] a = refl
 count_none e (v ∷ vs) a = count_out e v vs a.0 ∙ count_none e vs a.1
 
@@ -43,11 +43,11 @@ of_visit_to v e h = grind (arith, nat_tests)
 too_early : (t : Terms) (v : Visit) (e : Reading) → e.card ≡ v.card → e.time ≤ v.to → (w : Visit) → Follows t v w → of_visit w e ≡ false
 too_early t v e c l w f = grind (arith, nat_tests)
 
-followers_out : (t : Terms) (v : Visit) (e : Reading) (vs : List Visit) → All (Follows t v) vs → e.card ≡ v.card → e.time ≤ v.to → All (λ w. of_visit w e ≡ false) vs
+followers_out : (t : Terms) (v : Visit) (e : Reading) (vs : List Visit) → AllByRecursion (Follows t v) vs → e.card ≡ v.card → e.time ≤ v.to → AllByRecursion (λ w. of_visit w e ≡ false) vs
 followers_out t v e vs a c l = All-weaker (Follows t v) (λ w. of_visit w e ≡ false) (too_early t v e c l) vs a
 
 -- So a reading that is of one of them is not of the visit that they follow.
-not_of_first : (t : Terms) (v : Visit) (e : Reading) (vs : List Visit) → All (Follows t v) vs → visits_with e vs ≡ 1 → of_visit v e ≡ false
+not_of_first : (t : Terms) (v : Visit) (e : Reading) (vs : List Visit) → AllByRecursion (Follows t v) vs → visits_with e vs ≡ 1 → of_visit v e ≡ false
 not_of_first t v e vs a h =
     split (of_visit v e)
     (λ o. let z = count_none e vs (followers_out t v e vs a (of_visit_card v e o) (of_visit_to v e o)) in absurd (omega arith))
@@ -71,7 +71,7 @@ right_like t xs ys v q r =
       sum = r.sum ∙ ap (λ (es : List Reading). sum_by (λ e. e.amount) es) (sym q);
     }
 
-right_others : (t : Terms) (e : Reading) (xs : List Reading) (vs : List Visit) → All (λ v. of_visit v e ≡ false) vs → All (RightVisit t xs) vs → All (RightVisit t (e ∷ xs)) vs
+right_others : (t : Terms) (e : Reading) (xs : List Reading) (vs : List Visit) → AllByRecursion (λ v. of_visit v e ≡ false) vs → AllByRecursion (RightVisit t xs) vs → AllByRecursion (RightVisit t (e ∷ xs)) vs
 right_others t e xs [] a r = tt
 right_others t e xs (v ∷ vs) a r =
     let h = a.0 in
@@ -79,7 +79,7 @@ right_others t e xs (v ∷ vs) a r =
     (right_like t xs (e ∷ xs) v q r.0, right_others t e xs vs a.1 r.1)
 
 -- A visit of one reading.
-right_single : (t : Terms) (e : Reading) (xs : List Reading) → All (λ x. of_visit (single e) x ≡ false) xs → RightVisit t (e ∷ xs) (single e)
+right_single : (t : Terms) (e : Reading) (xs : List Reading) → AllByRecursion (λ x. of_visit (single e) x ≡ false) xs → RightVisit t (e ∷ xs) (single e)
 right_single t e xs a =
     let h = of_single e in
     let n = kept_none (of_visit (single e)) xs a in
@@ -96,7 +96,7 @@ unfolding joins
 joined_from t e v j = grind (arith, nat_tests)
 
 right_grown : (t : Terms) (e : Reading) (xs : List Reading) (v : Visit) → joins t e v ≡ true → e.time ≤ v.from → v.from ≤ v.to
-    → All (λ x. of_visit (grown e v) x ≡ of_visit v x) xs → RightVisit t xs v → RightVisit t (e ∷ xs) (grown e v)
+    → AllByRecursion (λ x. of_visit (grown e v) x ≡ of_visit v x) xs → RightVisit t xs v → RightVisit t (e ∷ xs) (grown e v)
 right_grown t e xs v j l m a r =
     let c = joined_card t e v j in
     let h : of_visit (grown e v) e ≡ true = grind (arith, nat_tests) in
@@ -115,10 +115,10 @@ right_grown t e xs v j l m a r =
 
 -- The state of the induction: every reading has one visit, every visit is right.
 abbrev pub Parted : Terms → List Reading → List Visit → Type 0
-Parted t xs vs = All (λ e. visits_with e vs ≡ 1) xs × All (RightVisit t xs) vs
+Parted t xs vs = AllByRecursion (λ e. visits_with e vs ≡ 1) xs × AllByRecursion (RightVisit t xs) vs
 
 -- A reading put before all others is a visit of its own ..
-parted_alone : (t : Terms) (e : Reading) (xs : List Reading) (vs : List Visit) → All (Follows t (single e)) vs → Parted t xs vs → Parted t (e ∷ xs) (single e ∷ vs)
+parted_alone : (t : Terms) (e : Reading) (xs : List Reading) (vs : List Visit) → AllByRecursion (Follows t (single e)) vs → Parted t xs vs → Parted t (e ∷ xs) (single e ∷ vs)
 parted_alone t e xs vs a p =
     let out = followers_out t (single e) e vs a refl (omega arith) in
     let mine = count_in e (single e) vs (of_single e) ∙ ap (λ (n : ℕ). 1 + n) (count_none e vs out) in
@@ -128,7 +128,7 @@ parted_alone t e xs vs a p =
     ((mine, theirs), (right_single t e xs not_mine, right_others t e xs vs out p.1))
 
 -- .. or makes the first visit longer, which then has the readings that it had, and this one.
-grown_same : (t : Terms) (e : Reading) (v : Visit) (vs : List Visit) → e.time ≤ v.from → All (Follows t v) vs
+grown_same : (t : Terms) (e : Reading) (v : Visit) (vs : List Visit) → e.time ≤ v.from → AllByRecursion (Follows t v) vs
     → (x : Reading) → visits_with x (v ∷ vs) ≡ 1 → of_visit (grown e v) x ≡ of_visit v x
 grown_same t e v vs l a x h =
     split (of_visit v x)
@@ -156,7 +156,7 @@ parted_grown t e xs v vs j n a p =
     let theirs = All-weaker (λ x. visits_with x (v ∷ vs) ≡ 1) (λ x. visits_with x (grown e v ∷ vs) ≡ 1) (λ x h. count_like x v (grown e v) vs (same x h) ∙ h) xs p.0 in
     ((mine, theirs), (right_grown t e xs v j l m agree p.1.0, right_others t e xs vs out p.1.1))
 
-parted_prepend : (t : Terms) (e : Reading) (xs : List Reading) (vs : List Visit) → All (NotAfter e) vs → Apart t vs → Apart t (prepend t e vs) → Parted t xs vs
+parted_prepend : (t : Terms) (e : Reading) (xs : List Reading) (vs : List Visit) → AllByRecursion (NotAfter e) vs → Apart t vs → Apart t (prepend t e vs) → Parted t xs vs
     → Parted t (e ∷ xs) (prepend t e vs)
 parted_prepend t e xs [] n a b p = parted_alone t e xs [] tt p
 parted_prepend t e xs (v ∷ vs) n a b p =

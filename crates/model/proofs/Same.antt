@@ -1,6 +1,6 @@
 -- Lists in a strict order: what is in them says what they are.
 use Rattle.std.proofs.Common.{◌≡◌, ℕ, zero, suc, ◌<◌, Bool, true, ◌⊎◌, List, [], ◌∷◌, length, get_or, Decides, filter, sym, refl, ap, ◌∙◌, subst, inl, inr, arith}
-use Rattle.std.specs.List.{HoldsAt, ContainsAt as Has, AllByRecursion as All}
+use Rattle.std.specs.List.{HoldsAt, ContainsAt as Has, AllByRecursion}
 use Rattle.std.proofs.ByRecursion.{All-get_or, all-has, all_kept_by}
 use Rattle.std.proofs.lemmas.Bool.Decides.{Decides-by_or, nat_tests}
 use Rattle.visit.specs.declared.Reading.{Reading}
@@ -15,7 +15,7 @@ use Rattle.model.proofs.Order.{SortedReadings, reference_sorted}
 -- Each element comes before all that follow it.
 abbrev pub RisingBy : {X : Type 0} → (X → X → Bool) → List X → Type 0
 RisingBy before [] = Unit {0}
-RisingBy before (x ∷ xs) = All (λ y. before x y ≡ true) xs × RisingBy before xs
+RisingBy before (x ∷ xs) = AllByRecursion (λ y. before x y ≡ true) xs × RisingBy before xs
 
 pub rising_at : {X : Type 0} (before : X → X → Bool) (xs : List X) → RisingBy before xs → (i j : ℕ) (d : X) → i < j → j < length xs → before (get_or xs i d) (get_or xs j d) ≡ true
 rising_at before [] r i j d l h = absurd (omega arith)
@@ -54,7 +54,7 @@ rising_kept before p (x ∷ xs) r =
 
 -- Two lists that rise and have the same members are one.
 either_same : {X : Type 0} (before : X → X → Bool) (strict : (x y : X) → before x y ≡ true → before y x ≡ true → ⊥) (x y : X) (xs ys : List X)
-    → All (λ z. before x z ≡ true) xs → All (λ z. before y z ≡ true) ys → Has (y ∷ ys) x → Has (x ∷ xs) y → x ≡ y
+    → AllByRecursion (λ z. before x z ≡ true) xs → AllByRecursion (λ z. before y z ≡ true) ys → Has (y ∷ ys) x → Has (x ∷ xs) y → x ≡ y
 either_same before strict x y xs ys a b h g =
     elim (has_cases y ys x h) [
       | inl e ↦ sym e
@@ -65,7 +65,7 @@ either_same before strict x y xs ys a b h g =
     ]
 
 rest_has : {X : Type 0} (before : X → X → Bool) (strict : (x y : X) → before x y ≡ true → before y x ≡ true → ⊥) (x y : X) (xs ys : List X)
-    → All (λ z. before x z ≡ true) xs → x ≡ y → ((z : X) → Has (x ∷ xs) z → Has (y ∷ ys) z) → (z : X) → Has xs z → Has ys z
+    → AllByRecursion (λ z. before x z ≡ true) xs → x ≡ y → ((z : X) → Has (x ∷ xs) z → Has (y ∷ ys) z) → (z : X) → Has xs z → Has ys z
 rest_has before strict x y xs ys a e f z h =
     elim (has_cases y ys z (f z (has_there x xs z h))) [
       | inl q ↦ (let p : before z z ≡ true = subst (λ w. before w z ≡ true) (e ∙ q) (all-has (λ w. before x w ≡ true) xs z a h) in absurd (strict z z p p))

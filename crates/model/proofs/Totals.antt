@@ -1,7 +1,7 @@
 -- The ledger: the order in which visits are put to it does not matter, and taking undoes adding.
 use Rattle.std.proofs.Common.{◌≡◌, ℕ, ◌+◌, ◌-◌, ◌≤◌, Bool, true, false, not, eqb, List, [], ◌∷◌, filter, sym, refl, ap, ◌∙◌, arith}
 use mathlib.Core.Bool.{not-not, and_comm}
-use Rattle.std.specs.List.{AllByRecursion as All}
+use Rattle.std.specs.List.{AllByRecursion}
 use Rattle.std.proofs.lemmas.Bool.Decides.{nat_tests}
 use Rattle.visit.specs.declared.Line.{Line}
 use Rattle.visit.specs.declared.Terms.{Terms}
@@ -123,7 +123,7 @@ add_swap t a b (x ∷ xs) =
 
 -- Lines that all have visits.
 abbrev pub Filled : List Line → Type 0
-Filled ls = All (λ l. 1 ≤ l.visits) ls
+Filled ls = AllByRecursion (λ l. 1 ≤ l.visits) ls
 
 pub filled_line : (t : Terms) (a : Line) (ls : List Line) → 1 ≤ a.visits → Filled ls → Filled (add_line t a ls)
 filled_line t a [] h f = (h, tt)

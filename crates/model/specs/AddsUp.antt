@@ -1,6 +1,6 @@
 -- Changes add up: one who only follows the changes has the closed visits.
 use Rattle.std.specs.Prelude.{◌≡◌, List, [], ◌∷◌}
-use Rattle.std.specs.List.{ContainsAt as Has, AllByRecursion as All}
+use Rattle.std.specs.List.{ContainsAt as Has, AllByRecursion}
 use Rattle.visit.specs.declared.Terms.{Terms}
 use Rattle.visit.specs.declared.Visit.{Visit}
 use Rattle.visit.specs.Visits.{visit_before}
@@ -28,7 +28,7 @@ applied_all t vs (o ∷ os) = applied_all t (applied_to t vs o) os
 
 -- What is retracted was there, what is added was not.
 abbrev pub Sound : List Visit → Outcome → Type 0
-Sound vs (changed gone new) = All (Has vs) gone × All (λ v. Has vs v → ⊥) new
+Sound vs (changed gone new) = AllByRecursion (Has vs) gone × AllByRecursion (λ v. Has vs v → ⊥) new
 Sound vs (refused r) = Unit {0}
 
 abbrev pub AllSound : Terms → List Visit → List Outcome → Type 0

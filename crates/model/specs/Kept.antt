@@ -1,6 +1,6 @@
 -- What the store keeps: no more than it needs, and nothing in vain.
 use Rattle.std.specs.Prelude.{◌≡◌, ℕ, ◌+◌, ◌≤◌, max, Bool, false, leb, List, length, filter, nat_le}
-use Rattle.std.specs.List.{AllByRecursion as All}
+use Rattle.std.specs.List.{AllByRecursion}
 use Rattle.visit.specs.declared.Reading.{Reading}
 use Rattle.visit.specs.declared.Terms.{Terms}
 use Rattle.visit.specs.declared.Visit.{Visit}
@@ -45,8 +45,8 @@ MayChange t s v = (e : Reading) × ChangesVisit t s v e
 
 -- Each kept reading, coming again, is refused as a duplicate; each live visit may still change.
 pub record NeedsAll (t : Terms) (s : Store) : Type 0 where
-  pub readings : All (λ e. store_outcome t s (AReading e) ≡ refused (Duplicate e.time)) s.seen
-  pub visits : All (MayChange t s) s.live
+  pub readings : AllByRecursion (λ e. store_outcome t s (AReading e) ≡ refused (Duplicate e.time)) s.seen
+  pub visits : AllByRecursion (MayChange t s) s.live
 
 abbrev pub NothingInVain : Type 0
 NothingInVain = (t : Terms) (cs : List Command) → NeedsAll t (store_after t empty_store cs)

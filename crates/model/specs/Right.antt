@@ -1,6 +1,6 @@
 -- Visits are right: what they say is so of the readings that were taken in.
 use Rattle.std.specs.Prelude.{◌≡◌, ℕ, ◌+◌, ◌<◌, ◌≤◌, Bool, true, ◌&&◌, List, [], ◌∷◌, length, get_or, sum_by, count_by, filter, ◌==◌, nat_le, slice_index_or}
-use Rattle.std.specs.List.{AllByRecursion as All}
+use Rattle.std.specs.List.{AllByRecursion}
 use Rattle.visit.specs.declared.Reading.{Reading}
 use Rattle.visit.specs.declared.Terms.{Terms}
 use Rattle.visit.specs.declared.Visit.{Visit}
@@ -35,8 +35,8 @@ pub record RightVisit (t : Terms) (xs : List Reading) (v : Visit) : Type 0 where
 
 -- Every reading is of exactly one visit, each visit is right, they are in order, and two of a card are more than the gap apart.
 pub record Right (t : Terms) (xs : List Reading) (vs : List Visit) : Type 0 where
-  pub one : All (λ e. count_by (λ v. of_visit v e) vs ≡ 1) xs
-  pub each : All (RightVisit t xs) vs
+  pub one : AllByRecursion (λ e. count_by (λ v. of_visit v e) vs ≡ 1) xs
+  pub each : AllByRecursion (RightVisit t xs) vs
   pub in_order : (i j : ℕ) (d : Visit) → i < j → j < length vs → visit_before t (slice_index_or vs i d) (slice_index_or vs j d) ≡ true
   pub apart :
       (i j : ℕ) (d : Visit) → i < j → j < length vs → (get_or vs i d).card ≡ (get_or vs j d).card

@@ -1,6 +1,6 @@
 -- That forgetting is unseen: what is promised of the store that forgets, against the reference that forgets nothing.
 use Rattle.std.specs.Prelude.{◌≡◌, ℕ, ◌≤◌, true, cond, ◌&&◌, List, [], ◌∷◌, length, sum_by, filter, Result, ◌==◌}
-use Rattle.std.specs.List.{AllByRecursion as All}
+use Rattle.std.specs.List.{AllByRecursion}
 use Rattle.visit.specs.declared.Line.{Line}
 use Rattle.visit.specs.declared.Terms.{Terms}
 use Rattle.visit.specs.declared.Visit.{Visit}
@@ -40,7 +40,7 @@ BoundedUnseen =
 -- The keys of a ledger rise, and every line has visits.
 abbrev pub Lined : Terms → List Line → Type 0
 Lined t [] = Unit {0}
-Lined t (l ∷ ls) = (1 ≤ l.visits) × All (λ x. line_before t l x ≡ true) ls × Lined t ls
+Lined t (l ∷ ls) = (1 ≤ l.visits) × AllByRecursion (λ x. line_before t l x ≡ true) ls × Lined t ls
 
 -- The visits of a card that began on a day, and the lines of a ledger for that card and day.
 abbrev pub visits_for : Terms → ℕ → ℕ → List Visit → List Visit

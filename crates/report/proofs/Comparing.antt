@@ -1,6 +1,6 @@
 -- A store in a row and the reference print the same of the commands that are not withheld.
 use Rattle.std.proofs.Common.{◌≡◌, ℕ, ◌≤◌, min, Bool, true, false, cond, List, [], ◌∷◌, ◌++◌, length, drop, replicate, Some, None, Option, sym, refl, ap, ◌∙◌, subst, arith}
-use Rattle.std.specs.List.{flat_map, AllByRecursion as All}
+use Rattle.std.specs.List.{flat_map, AllByRecursion}
 use Rattle.std.proofs.lemmas.List.{append_assoc, length-replicate}
 use Rattle.std.proofs.lemmas.Bool.{le-ltb}
 use Rattle.visit.specs.declared.Terms.{Terms}
@@ -190,7 +190,7 @@ begins_from_empty cap n room t xs cs =
     (λ out long rest. reference_begins cap out long t rest empty (empty_standing t) cs) xs
 
 -- Where nothing is withheld, nothing is left out.
-all_shown : (cap : Capacity) (n : ℕ) (xs : List ℕ) (cs : List Command) → All (λ o. withheld_outcome o ≡ false) (store_outcomes cap n xs cs)
+all_shown : (cap : Capacity) (n : ℕ) (xs : List ℕ) (cs : List Command) → AllByRecursion (λ o. withheld_outcome o ≡ false) (store_outcomes cap n xs cs)
     → store_prints_heard cap n xs cs ≡ store_prints cap n xs cs
 all_shown cap n xs [] a = refl
 all_shown cap n xs (c ∷ cs) a =
@@ -198,14 +198,14 @@ all_shown cap n xs (c ∷ cs) a =
     let ys : List ℕ = row_then cap xs n c in
     ap (λ (b : Bool). cond b [] (outcome_text o) ++ store_prints_heard cap n ys cs) a.0 ∙ ap (λ (bs : List ℕ). outcome_text o ++ bs) (all_shown cap n ys cs a.1)
 
-all_heard : (cap : Capacity) (n : ℕ) (xs : List ℕ) (cs : List Command) → All (λ o. withheld_outcome o ≡ false) (store_outcomes cap n xs cs) → store_heard cap n xs cs ≡ cs
+all_heard : (cap : Capacity) (n : ℕ) (xs : List ℕ) (cs : List Command) → AllByRecursion (λ o. withheld_outcome o ≡ false) (store_outcomes cap n xs cs) → store_heard cap n xs cs ≡ cs
 all_heard cap n xs [] a = refl
 all_heard cap n xs (c ∷ cs) a =
     let hs : List Command = store_heard cap n (row_then cap xs n c) cs in
     ap (λ (b : Bool). cond b hs (c ∷ hs)) a.0 ∙ ap (λ (l : List Command). c ∷ l) (all_heard cap n (row_then cap xs n c) cs a.1)
 
 same_from_empty : (cap : Capacity) (n : ℕ) → out_width ≤ n → (t : Terms) (xs : List ℕ) (cs : List Command)
-    → All (λ o. withheld_outcome o ≡ false) (store_outcomes cap n (empty_row t xs) cs) → store_prints cap n (empty_row t xs) cs ≡ reference_prints t empty cs
+    → AllByRecursion (λ o. withheld_outcome o ≡ false) (store_outcomes cap n (empty_row t xs) cs) → store_prints cap n (empty_row t xs) cs ≡ reference_prints t empty cs
 same_from_empty cap n room t xs cs a =
     sym (all_shown cap n (empty_row t xs) cs a) ∙ heard_from_empty cap n room t xs cs ∙ ap (reference_prints t empty) (all_heard cap n (empty_row t xs) cs a)
 

@@ -1,6 +1,6 @@
 -- What a store prints, compared with what recomputing prints.
 use Rattle.std.specs.Prelude.{◌≡◌, ℕ, Bool, false, cond, List, [], ◌∷◌, ◌++◌, replicate}
-use Rattle.std.specs.List.{flat_map, AllByRecursion as All}
+use Rattle.std.specs.List.{flat_map, AllByRecursion}
 use Rattle.visit.specs.declared.Terms.{Terms}
 use Rattle.command.specs.declared.Command.{Command}
 use Rattle.command.specs.Outcomes.{Outcome, reply_of}
@@ -27,7 +27,7 @@ settle_outcomes cap t cs = store_outcomes cap out_width (empty_row t (replicate 
 
 -- No command is withheld.
 abbrev pub NoneWithheld : Capacity → Terms → List Command → Type 0
-NoneWithheld cap t cs = All (λ o. withheld_outcome o ≡ false) (settle_outcomes cap t cs)
+NoneWithheld cap t cs = AllByRecursion (λ o. withheld_outcome o ≡ false) (settle_outcomes cap t cs)
 
 -- Then the whole text, every outcome and the ledger, is the one that recomputing prints.
 abbrev pub SameText : Type 0

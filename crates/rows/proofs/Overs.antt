@@ -1,7 +1,7 @@
 -- The first number over its limit, row by row.
 use Rattle.std.proofs.Common.{◌≡◌, ℕ, zero, suc, ◌+◌, ◌-◌, ◌*◌, ◌<◌, ◌≤◌, true, false, cond, List, [], ◌∷◌, ◌++◌, length, take, drop, Some, None, Option, sym, refl, ap, ◌∙◌, add-zero, add_assoc, suc-mul, zero-mul, add-one, arith}
 use Rattle.std.specs.Option.{option_map}
-use Rattle.std.specs.List.{repeat, AllByRecursion as All}
+use Rattle.std.specs.List.{repeat, AllByRecursion}
 use Rattle.std.proofs.lemmas.List.{drop-drop, length-drop, take-append-drop}
 use Rattle.rows.specs.Limits.{first_over, over}
 use Rattle.rows.specs.Rows.{Laws, rows_in}
@@ -83,7 +83,7 @@ module _ {R : Type 0} {w : ℕ} {made : List ℕ → R} {cells : R → List ℕ}
       (over_append (i * w) ls (repeat (n - (i + 1)) ls) (cells r) (drop (i * w + w) xs) (limited ∙ sym (laws.long r)) ∙ rw (laws.long r, shift))
 
   -- Where no cell of n rows is over its limit, none of a row is.
-  pub none_over : (i n : ℕ) (xs : List ℕ) → n * w ≤ length xs → first_over i (repeat n ls) xs ≡ None → All (λ r. first_over 0 ls (cells r) ≡ None) (rows_in w made n xs)
+  pub none_over : (i n : ℕ) (xs : List ℕ) → n * w ≤ length xs → first_over i (repeat n ls) xs ≡ None → AllByRecursion (λ r. first_over 0 ls (cells r) ≡ None) (rows_in w made n xs)
   none_over i zero xs h e = tt
   none_over i (suc n) xs h e =
       let long : n * w + w ≤ length xs = rw suc-mul at h in

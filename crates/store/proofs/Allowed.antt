@@ -1,6 +1,6 @@
 -- What passed checks allow: the command can be drafted and finished, and every sum fits in 64 bits.
 use Rattle.std.proofs.Common.{◌≡◌, ℕ, ◌+◌, ◌*◌, ◌^◌, ◌<◌, ◌≤◌, min, Bool, true, false, cond, not, ◌&&◌, ltb, leb, List, [], ◌∷◌, ◌++◌, length, Some, None, sum_by, filter, Option, sym, refl, ap, ◌∙◌, subst, arith}
-use Rattle.std.specs.List.{AllByRecursion as All}
+use Rattle.std.specs.List.{AllByRecursion}
 use Rattle.std.proofs.ByRecursion.{All-weaker, sum_by_le}
 use Rattle.std.proofs.lemmas.List.{length-append}
 use Rattle.std.proofs.lemmas.List.Sums.{sum_by-append, sum_by-cons}
@@ -86,7 +86,7 @@ new_few t from to vs h =
     rw is (kept_fewer (newly_closed t from to) (λ v. not (closed t from v)) vs (λ v o. grind (arith, nat_tests)))
 
 -- The lines have room for k more visits of the sum s.
-pub fits_lines : (k s : ℕ) (ls : List Line) → k ≤ 2 ^ 20 → s ≤ 2 ^ 63 → All (λ l. first_over 0 line_limits (line_cells l) ≡ None) ls → Fits k s ls
+pub fits_lines : (k s : ℕ) (ls : List Line) → k ≤ 2 ^ 20 → s ≤ 2 ^ 63 → AllByRecursion (λ l. first_over 0 line_limits (line_cells l) ≡ None) ls → Fits k s ls
 fits_lines k s ls few small all =
     record {
       visits = omega arith;
@@ -104,8 +104,8 @@ pub record Within (h : Header) (s : Store) : Type 0 where
   pub counts : Counted h
   pub visits : length s.live ≡ h.visits
   pub readings : length s.seen ≡ h.readings
-  pub live : All (λ v. first_over 0 visit_limits (visit_cells v) ≡ None) s.live
-  pub ledger : All (λ l. first_over 0 line_limits (line_cells l) ≡ None) s.ledger
+  pub live : AllByRecursion (λ v. first_over 0 visit_limits (visit_cells v) ≡ None) s.live
+  pub ledger : AllByRecursion (λ l. first_over 0 line_limits (line_cells l) ≡ None) s.ledger
 
 module _ (h : Header) (s : Store) (w : Within h s) where
   pub counts_fit : counts s.live ≤ 2 ^ 50

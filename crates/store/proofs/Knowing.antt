@@ -1,6 +1,6 @@
 -- A row that is known to be a store.
 use Rattle.std.proofs.Common.{◌≡◌, ℕ, ◌≤◌, true, false, ltb, List, length, None, Ok, Err, Result, sym, refl, ap, ◌∙◌, subst}
-use Rattle.std.specs.List.{AllByRecursion as All}
+use Rattle.std.specs.List.{AllByRecursion}
 use Rattle.std.proofs.lemmas.Bool.{true≢false}
 use Rattle.command.specs.declared.Refusal.{Refusal}
 use Rattle.store.specs.declared.header.Header.{Header}
@@ -28,5 +28,5 @@ known_row xs e =
     record { size = short_not (ltb (length xs) store_size) xs refl none.0; header = ap Ok same ∙ sym w.1 }
 
 -- A row in which no check finds anything.
-pub sound_by : (xs : List ℕ) → All (λ f. f ≡ None) (store_faults xs) → sound_row xs ≡ true
+pub sound_by : (xs : List ℕ) → AllByRecursion (λ f. f ≡ None) (store_faults xs) → sound_row xs ≡ true
 sound_by xs a = ap is_ok (none_found (store_faults xs) (Ok (header_in xs)) a)

@@ -1,6 +1,6 @@
 -- What is known once all checks have passed.
 use Rattle.std.proofs.Common.{◌≡◌, ℕ, List, [], ◌∷◌, ◌++◌, length, Some, None, Ok, Err, Option, Result, sym, refl, ap, ◌∙◌, arith}
-use Rattle.std.specs.List.{AllByRecursion as All}
+use Rattle.std.specs.List.{AllByRecursion}
 use Rattle.command.specs.declared.Refusal.{Refusal}
 use Rattle.command.specs.Bounds.{terms_fault}
 use Rattle.model.specs.Store.{Draft, draft}
@@ -54,7 +54,7 @@ module _ (cap : Capacity) (xs cs : List ℕ) (out : ℕ) where
   pub record Passed (q : Ready) : Type 0 where
     pub header : q.header ≡ header_in xs
     pub command : q.command ≡ command_in cs
-    pub none : All (λ f. f ≡ None) (faults cap xs cs out ++ (refusal_of drafted ∷ []))
+    pub none : AllByRecursion (λ f. f ≡ None) (faults cap xs cs out ++ (refusal_of drafted ∷ []))
 
   pub passed_by : (q : Ready) → Ok q ≡ checked cap xs cs out → Passed q
   passed_by q e =

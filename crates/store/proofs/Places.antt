@@ -1,7 +1,7 @@
 -- The first number over its limit, and the first of several refusals.
 use Rattle.std.proofs.Common.{◌≡◌, ℕ, ◌+◌, Bool, true, false, cond, List, [], ◌∷◌, ◌++◌, Some, None, Ok, Err, Option, Result, sym, refl, ap, ◌∙◌, add-zero, arith}
 use Rattle.std.specs.Option.{option_map}
-use Rattle.std.specs.List.{AllByRecursion as All}
+use Rattle.std.specs.List.{AllByRecursion}
 use Rattle.command.specs.declared.Refusal.{Refusal}
 use Rattle.model.specs.Reference.{or_fault}
 use Rattle.rows.specs.Limits.{first_over}
@@ -18,7 +18,7 @@ fault_stands [] x y r e = absurd (let z : ◌≡◌ {A = ℕ} 0 1 = cc in omega 
 fault_stands (None ∷ fs) x y r e = fault_stands fs x y r e
 fault_stands (Some f ∷ fs) x y r e = let same : f ≡ r = cc in ap Err same
 
-pub no_fault : {X : Type 0} (fs : List (Option Refusal)) (x z : X) → first_fault fs (Ok x) ≡ Ok z → All (λ f. f ≡ None) fs
+pub no_fault : {X : Type 0} (fs : List (Option Refusal)) (x z : X) → first_fault fs (Ok x) ≡ Ok z → AllByRecursion (λ f. f ≡ None) fs
 no_fault [] x z e = tt
 no_fault (None ∷ fs) x z e = (refl, no_fault fs x z e)
 no_fault (Some f ∷ fs) x z e = absurd (let z : ◌≡◌ {A = ℕ} 0 1 = cc in omega arith)
@@ -28,11 +28,11 @@ no_fault_is [] x z e = cc
 no_fault_is (None ∷ fs) x z e = no_fault_is fs x z e
 no_fault_is (Some f ∷ fs) x z e = absurd (let z : ◌≡◌ {A = ℕ} 0 1 = cc in omega arith)
 
-pub none_found : {X : Type 0} (fs : List (Option Refusal)) (y : Result X Refusal) → All (λ f. f ≡ None) fs → first_fault fs y ≡ y
+pub none_found : {X : Type 0} (fs : List (Option Refusal)) (y : Result X Refusal) → AllByRecursion (λ f. f ≡ None) fs → first_fault fs y ≡ y
 none_found [] y a = refl
 none_found (f ∷ fs) y a = ap (λ o. or_fault o (first_fault fs y)) a.0 ∙ none_found fs y a.1
 
-pub fault_at : {X : Type 0} (fs gs : List (Option Refusal)) (f : Option Refusal) (r : Refusal) (y : Result X Refusal) → All (λ f. f ≡ None) fs → f ≡ Some r
+pub fault_at : {X : Type 0} (fs gs : List (Option Refusal)) (f : Option Refusal) (r : Refusal) (y : Result X Refusal) → AllByRecursion (λ f. f ≡ None) fs → f ≡ Some r
     → first_fault (fs ++ (f ∷ gs)) y ≡ Err r
 fault_at [] gs f r y a e = ap (λ o. or_fault o (first_fault gs y)) e
 fault_at (g ∷ fs) gs f r y a e = ap (λ o. or_fault o (first_fault (fs ++ (f ∷ gs)) y)) a.0 ∙ fault_at fs gs f r y a.1 e
