@@ -1,6 +1,6 @@
 -- What a text says fits: every number of a day that is read is below its limit.
 use Rattle.std.proofs.Common.{◌≡◌, ℕ, ◌+◌, ◌<◌, Bool, true, false, cond, eqb, List, [], ◌∷◌, length, get_or, IfOk, Ok, Err, codes, Result, arith}
-use Rattle.std.specs.List.{AllByRecursion as All}
+use Rattle.std.specs.List.{AllByRecursion}
 use Rattle.std.specs.Str.{bytes_eq}
 use Rattle.std.proofs.ByRecursion.{All-weaker}
 use Rattle.std.proofs.lemmas.Result.{IfOk-at_ok}
@@ -76,14 +76,14 @@ line_fits : {A : Type 0} (P : A → Type 0) (n : ℕ) (r : Result A Reason) → 
 line_fits P n (Ok x) p = p
 line_fits P n (Err e) p = tt
 
-commands_step : (b : Bool) (one : Result Command BadLine) (rest : Result (List Command) BadLine) → IfOk one CommandFits → IfOk rest (All CommandFits)
-    → IfOk (cond b rest (then one (λ c. then rest (λ cs. Ok (c ∷ cs))))) (All CommandFits)
+commands_step : (b : Bool) (one : Result Command BadLine) (rest : Result (List Command) BadLine) → IfOk one CommandFits → IfOk rest (AllByRecursion CommandFits)
+    → IfOk (cond b rest (then one (λ c. then rest (λ cs. Ok (c ∷ cs))))) (AllByRecursion CommandFits)
 commands_step true one rest p q = q
 commands_step false (Err e) rest p q = tt
 commands_step false (Ok c) (Err e) p q = tt
 commands_step false (Ok c) (Ok cs) p q = (p, q)
 
-commands_fit : (n : ℕ) (ls : List (List ℕ)) → IfOk (commands_from n ls) (All CommandFits)
+commands_fit : (n : ℕ) (ls : List (List ℕ)) → IfOk (commands_from n ls) (AllByRecursion CommandFits)
 unfolding commands_from
 commands_fit n [] = tt
 commands_fit n (l ∷ ls) =
@@ -91,10 +91,10 @@ commands_fit n (l ∷ ls) =
     (line_fits CommandFits n (parsed_command (line_words l)) (command_fits (line_words l))) (commands_fit (n + 1) ls)
 
 abbrev DayFits : Terms × List Command → Type 0
-DayFits d = TermsFit d.0 × All CommandFits d.1
+DayFits d = TermsFit d.0 × AllByRecursion CommandFits d.1
 
 day_step : (b : Bool) (next : Result (Terms × List Command) BadLine) (one : Result Terms BadLine) (rest : Result (List Command) BadLine)
-    → IfOk next DayFits → IfOk one TermsFit → IfOk rest (All CommandFits) → IfOk (cond b next (then one (λ t. then rest (λ cs. Ok (t, cs))))) DayFits
+    → IfOk next DayFits → IfOk one TermsFit → IfOk rest (AllByRecursion CommandFits) → IfOk (cond b next (then one (λ t. then rest (λ cs. Ok (t, cs))))) DayFits
 day_step true next one rest n p q = n
 day_step false next (Err e) rest n p q = tt
 day_step false next (Ok t) (Err e) n p q = tt
@@ -107,7 +107,7 @@ day_fits n (l ∷ ls) =
     day_step (eqb (length (line_words l)) 0) (day_from (n + 1) ls) (at_line n (parsed_terms (line_words l))) (commands_from (n + 1) ls)
     (day_fits (n + 1) ls) (line_fits TermsFit n (parsed_terms (line_words l)) (terms_fit (line_words l))) (commands_fit (n + 1) ls)
 
-pub text_fits : (text : List ℕ) (t : Terms) (cs : List Command) → parsed_day text ≡ Ok (t, cs) → TermsFit t × All CommandFits cs
+pub text_fits : (text : List ℕ) (t : Terms) (cs : List Command) → parsed_day text ≡ Ok (t, cs) → TermsFit t × AllByRecursion CommandFits cs
 text_fits text t cs e = IfOk-at_ok DayFits e (day_fits 1 (lines text))
 
 -- what fits can be stored
@@ -116,5 +116,5 @@ unfolding storable
 fits_stored (Reading e) h = grind (arith, nat_tests)
 fits_stored (Watermark m) h = grind (arith, nat_tests)
 
-pub all_stored : (cs : List Command) → All CommandFits cs → All (λ c. storable c ≡ true) cs
+pub all_stored : (cs : List Command) → AllByRecursion CommandFits cs → AllByRecursion (λ c. storable c ≡ true) cs
 all_stored cs h = All-weaker CommandFits (λ c. storable c ≡ true) fits_stored cs h

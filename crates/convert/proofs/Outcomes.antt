@@ -1,7 +1,7 @@
 -- What `pack` and `unpack` answer, from what their parts answer.
 use Rattle.std.proofs.Common.{◌≡◌, ℕ, ◌<◌, true, cond, List, length, get_or, Some, Ok, Err, Option, Result, sym, ap, ◌∙◌, arith}
 use Rattle.std.specs.Option.{option_map}
-use Rattle.std.specs.List.{AllByRecursion as All}
+use Rattle.std.specs.List.{AllByRecursion}
 use Rattle.std.proofs.ByRecursion.{All-get_or}
 use Rattle.visit.specs.declared.Terms.{Terms}
 use Rattle.command.specs.declared.Command.{Command}
@@ -18,7 +18,7 @@ use Rattle.convert.specs.Packing.{Packs, file_of, pack_error, packed}
 use Rattle.convert.specs.Unpacking.{unpacked}
 
 -- a command that can be stored is not refused as too large
-pub not_too_large : (cs : List Command) (i : ℕ) (d : Command) (e : EncodeError) → i < length cs → All (λ c. storable c ≡ true) cs → e ≡ cond (storable (get_or cs i d)) OutOfMemory TooLarge → e ≡ TooLarge → ⊥
+pub not_too_large : (cs : List Command) (i : ℕ) (d : Command) (e : EncodeError) → i < length cs → AllByRecursion (λ c. storable c ≡ true) cs → e ≡ cond (storable (get_or cs i d)) OutOfMemory TooLarge → e ≡ TooLarge → ⊥
 not_too_large cs i d e h all is large =
     let stored = All-get_or (λ c. storable c ≡ true) cs i d h all in
     let same : e ≡ OutOfMemory = simp stored at is in

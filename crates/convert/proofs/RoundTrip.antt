@@ -1,7 +1,7 @@
 -- What is packed and unpacked again is the same day.
 use Rattle.std.proofs.Common.{◌≡◌, ℕ, List, Some, Ok, Err, Option, sym, refl, ap, ◌∙◌, arith}
 use Rattle.std.specs.Option.{option_map}
-use Rattle.std.specs.List.{flat_map, AllByRecursion as All}
+use Rattle.std.specs.List.{flat_map, AllByRecursion}
 use Rattle.std.proofs.lemmas.List.{drop_at}
 use Rattle.visit.specs.declared.Terms.{Terms}
 use Rattle.command.specs.declared.Command.{Command}
@@ -20,7 +20,7 @@ use Rattle.convert.proofs.Fits.{all_stored, text_fits}
 body_of : (t : Terms) (cs : List Command) → body (file_of t cs) ≡ flat_map command_bytes cs
 body_of t cs = drop_at (terms_bytes t) (flat_map command_bytes cs) 24 refl
 
-day_kept : (t : Terms) (cs : List Command) → TermsFit t → All CommandFits cs → DayKept t cs
+day_kept : (t : Terms) (cs : List Command) → TermsFit t → AllByRecursion CommandFits cs → DayKept t cs
 day_kept t cs f g =
     let back = round_trip.whole_file cs (all_stored cs g) in
     let p : terms_in (file_of t cs) ≡ Some t = round_trip.terms t (flat_map command_bytes cs) f.0 f.1 f.2 in

@@ -1,6 +1,6 @@
 -- What is packed and unpacked again is the same day, written plainly.
 use Rattle.std.specs.Prelude.{◌≡◌, ℕ, List, Some, Ok}
-use Rattle.std.specs.List.{AllByRecursion as All}
+use Rattle.std.specs.List.{AllByRecursion}
 use Rattle.visit.specs.declared.Terms.{Terms}
 use Rattle.command.specs.declared.Command.{Command}
 use Rattle.days.specs.Parsing.{parsed_day}
@@ -20,6 +20,6 @@ pub record DayKept (t : Terms) (cs : List Command) : Type 0 where
 
 -- So it is for a day whose numbers fit, for every day that a text says, and hence for every text that can be packed.
 pub record RoundTrip : Type 0 where
-  pub day : (t : Terms) (cs : List Command) → TermsFit t → All CommandFits cs → DayKept t cs
-  pub fits : (text : List ℕ) (t : Terms) (cs : List Command) → parsed_day text ≡ Ok (t, cs) → TermsFit t × All CommandFits cs
+  pub day : (t : Terms) (cs : List Command) → TermsFit t → AllByRecursion CommandFits cs → DayKept t cs
+  pub fits : (text : List ℕ) (t : Terms) (cs : List Command) → parsed_day text ≡ Ok (t, cs) → TermsFit t × AllByRecursion CommandFits cs
   pub text : (text file : List ℕ) → packed text ≡ Ok file → (plain : List ℕ) × (unpacked file ≡ Some (plain, 0)) × (parsed_day plain ≡ parsed_day text)

@@ -3,7 +3,7 @@ ghost use Rattle.convert.specs.Packing.{Packs};
 ghost use Rattle.convert.specs.RoundTrip.{RoundTrip};
 ghost use Rattle.feed.specs.Files.{command_bytes, storable};
 ghost use Rattle.std.specs.Prelude.{◌≡◌, true, ◌++◌, OnOk};
-ghost use Rattle.std.specs.List.{flat_map, AllByRecursion as All};
+ghost use Rattle.std.specs.List.{flat_map, AllByRecursion};
 
 use super::PackError;
 use command::Command;
@@ -12,7 +12,7 @@ use feed::files::{EncodeError, put_command, put_terms};
 use std::alloc::{AllocError, Global};
 
 fn put_commands(file: &mut Vec<u8>, commands: &[Command]) -> Result<(), AllocError>
-    requires { All (λ c. storable c ≡ true) commands.now }
+    requires { AllByRecursion (λ c. storable c ≡ true) commands.now }
     ensures { OnOk result (file.new.items ≡ file.old.items ++ flat_map command_bytes commands.now) }
 {
     for command in commands {

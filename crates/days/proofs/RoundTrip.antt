@@ -1,6 +1,6 @@
 -- A written day is read back.
 use Rattle.std.proofs.Common.{◌≡◌, ℕ, ◌+◌, ◌^◌, ◌<◌, Bool, true, false, eqb, ltb, List, [], ◌∷◌, ◌++◌, length, Ok, decimal, Result, refl, ap, ◌∙◌, append_assoc, arith, rules}
-use Rattle.std.specs.List.{flat_map, AllByRecursion as All}
+use Rattle.std.specs.List.{flat_map, AllByRecursion}
 use Rattle.std.specs.Str.{all_ascii_digits}
 use Rattle.std.proofs.lemmas.Fmt.{decimal_nonempty, digits_decimal, digits_value-decimal}
 use Rattle.std.proofs.ByRecursion.{All-append, All-weaker}
@@ -23,15 +23,15 @@ use Rattle.days.proofs.Splitting.{words_nil}
 use Rattle.days.proofs.Steps.{commands_line, day_line}
 
 -- pieces are what was put together
-pieces_cut : (p : ℕ → Bool) (s : ℕ) (w rest : List ℕ) → p s ≡ false → All (λ b. p b ≡ true) w → pieces p (w ++ s ∷ rest) ≡ w ∷ pieces p rest
+pieces_cut : (p : ℕ → Bool) (s : ℕ) (w rest : List ℕ) → p s ≡ false → AllByRecursion (λ b. p b ≡ true) w → pieces p (w ++ s ∷ rest) ≡ w ∷ pieces p rest
 pieces_cut p s [] rest e a = simp e
 pieces_cut p s (b ∷ w) rest e a = simp a.0 (ap (onto b) (pieces_cut p s w rest e a.1))
 
-pieces_one : (p : ℕ → Bool) (b : ℕ) (w : List ℕ) → All (λ b. p b ≡ true) (b ∷ w) → pieces p (b ∷ w) ≡ (b ∷ w) ∷ []
+pieces_one : (p : ℕ → Bool) (b : ℕ) (w : List ℕ) → AllByRecursion (λ b. p b ≡ true) (b ∷ w) → pieces p (b ∷ w) ≡ (b ∷ w) ∷ []
 pieces_one p b [] a = simp a.0
 pieces_one p b (c ∷ w) a = simp a.0 (ap (onto b) (pieces_one p c w a.1))
 
-front_all : (p : ℕ → Bool) (l : List ℕ) → All (λ b. p b ≡ true) l → front p l ≡ l
+front_all : (p : ℕ → Bool) (l : List ℕ) → AllByRecursion (λ b. p b ≡ true) l → front p l ≡ l
 front_all p [] a = refl
 front_all p (b ∷ l) a = simp a.0 (ap (λ (m : List ℕ). b ∷ m) (front_all p l a.1))
 
@@ -40,7 +40,7 @@ abbrev Inline : ℕ → Type 0
 Inline b = (belongs Line b ≡ true) × (belongs Code b ≡ true)
 
 abbrev Clean : List ℕ → Type 0
-Clean w = (filled w ≡ true) × (All (λ b. belongs Word b ≡ true) w × All Inline w)
+Clean w = (filled w ≡ true) × (AllByRecursion (λ b. belongs Word b ≡ true) w × AllByRecursion Inline w)
 
 words_cut : (w rest : List ℕ) → Clean w → words (w ++ 32 ∷ rest) ≡ w ∷ words rest
 unfolding words
@@ -51,24 +51,24 @@ unfolding words
 words_one [] h = let z : ◌≡◌ {A = ℕ} 0 1 = cc h.0 in absurd (omega arith)
 words_one (b ∷ w) h = simp (pieces_one (belongs Word) b w h.1.0)
 
-words_spaced : (ws : List (List ℕ)) → All Clean ws → words (spaced ws) ≡ ws
+words_spaced : (ws : List (List ℕ)) → AllByRecursion Clean ws → words (spaced ws) ≡ ws
 words_spaced [] a = words_nil
 words_spaced (w ∷ []) a = words_one w a.0
 words_spaced (w ∷ v ∷ ws) a = words_cut w (spaced (v ∷ ws)) a.0 ∙ ap (λ (l : List (List ℕ)). w ∷ l) (words_spaced (v ∷ ws) a.1)
 
-spaced_inline : (ws : List (List ℕ)) → All Clean ws → All Inline (spaced ws)
+spaced_inline : (ws : List (List ℕ)) → AllByRecursion Clean ws → AllByRecursion Inline (spaced ws)
 spaced_inline [] a = tt
 spaced_inline (w ∷ []) a = a.0.1.1
 spaced_inline (w ∷ v ∷ ws) a = All-append Inline w (32 ∷ spaced (v ∷ ws)) a.0.1.1 ((refl, refl), spaced_inline (v ∷ ws) a.1)
 
 -- a line of words, and the words of that line
-lines_back : (ws : List (List ℕ)) (rest : List ℕ) → All Clean ws → lines ((spaced ws ++ 10 ∷ []) ++ rest) ≡ spaced ws ∷ lines rest
+lines_back : (ws : List (List ℕ)) (rest : List ℕ) → AllByRecursion Clean ws → lines ((spaced ws ++ 10 ∷ []) ++ rest) ≡ spaced ws ∷ lines rest
 unfolding lines
 lines_back ws rest a =
     ap (pieces (belongs Line)) (append_assoc (spaced ws) (10 ∷ []) rest)
     ∙ pieces_cut (belongs Line) 10 (spaced ws) rest refl (All-weaker Inline (λ b. belongs Line b ≡ true) (λ b h. h.0) (spaced ws) (spaced_inline ws a))
 
-words_back : (ws : List (List ℕ)) → All Clean ws → line_words (spaced ws) ≡ ws
+words_back : (ws : List (List ℕ)) → AllByRecursion Clean ws → line_words (spaced ws) ≡ ws
 words_back ws a =
     ap words (front_all (belongs Code) (spaced ws) (All-weaker Inline (λ b. belongs Code b ≡ true) (λ b h. h.1) (spaced ws) (spaced_inline ws a)))
     ∙ words_spaced ws a
@@ -77,11 +77,11 @@ words_back ws a =
 own : IsNumeralModel (λ ds. all_ascii_digits ds ≡ true) (value_after 0)
 own = numerals_by_fold _ (search rules) value_after (search rules)
 
-digits_word : (ds : List ℕ) → all_ascii_digits ds ≡ true → All (λ b. belongs Word b ≡ true) ds
+digits_word : (ds : List ℕ) → all_ascii_digits ds ≡ true → AllByRecursion (λ b. belongs Word b ≡ true) ds
 digits_word [] h = tt
 digits_word (d ∷ ds) h = (grind (arith, nat_tests), digits_word ds (grind (arith, nat_tests)))
 
-digits_inline : (ds : List ℕ) → all_ascii_digits ds ≡ true → All Inline ds
+digits_inline : (ds : List ℕ) → all_ascii_digits ds ≡ true → AllByRecursion Inline ds
 digits_inline [] h = tt
 digits_inline (d ∷ ds) h = ((grind (arith, nat_tests), grind (arith, nat_tests)), digits_inline ds (grind (arith, nat_tests)))
 
@@ -95,7 +95,7 @@ number_back : (limit n : ℕ) → n < limit → n < 2 ^ 64 → number_in limit (
 number_back limit n l h =
     let below : ltb n limit ≡ true = grind (arith, nat_tests) in simp (decimal_filled n h, digits_decimal own n h, digits_value-decimal own n h, below)
 
-terms_clean : (t : Terms) → TermsFit t → All Clean (terms_words t)
+terms_clean : (t : Terms) → TermsFit t → AllByRecursion Clean (terms_words t)
 terms_clean t f = ((refl, (search rules, search rules)), (decimal_clean _ f.0, (decimal_clean _ f.1, (decimal_clean _ f.2, tt))))
 
 terms_back : (t : Terms) → TermsFit t → parsed_terms (terms_words t) ≡ Ok t
@@ -105,7 +105,7 @@ terms_back t f =
 word_fits : (n : ℕ) → n < word_limit → n < 2 ^ 64
 word_fits n h = omega arith
 
-command_clean : (c : Command) → CommandFits c → All Clean (command_words c)
+command_clean : (c : Command) → CommandFits c → AllByRecursion Clean (command_words c)
 command_clean (Reading e) f = (
   (refl, (search rules, search rules)),
   (decimal_clean _ (word_fits _ f.0), (decimal_clean _ f.1, (decimal_clean _ (word_fits _ f.2), (decimal_clean _ (word_fits _ f.3), tt)))),
@@ -125,7 +125,7 @@ commands_none : (n : ℕ) → commands_from n (lines []) ≡ Ok []
 unfolding commands_from lines
 commands_none n = refl
 
-commands_back : (n : ℕ) (cs : List Command) → All CommandFits cs → commands_from n (lines (flat_map command_text cs)) ≡ Ok cs
+commands_back : (n : ℕ) (cs : List Command) → AllByRecursion CommandFits cs → commands_from n (lines (flat_map command_text cs)) ≡ Ok cs
 commands_back n [] a = commands_none n
 commands_back n (c ∷ cs) a =
     let ws = command_words c in

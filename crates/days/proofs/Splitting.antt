@@ -1,6 +1,6 @@
 -- Texts cut into pieces: the front piece and what follows it, words and lines.
 use Rattle.std.proofs.Common.{◌≡◌, ℕ, zero, suc, ◌+◌, ◌<◌, ◌≤◌, Bool, true, false, cond, eqb, leb, List, [], ◌∷◌, ◌++◌, length, get_or, take, drop, filter, sym, refl, ap, ◌∙◌, subst, add-one, arith}
-use Rattle.std.specs.List.{AllByRecursion as All}
+use Rattle.std.specs.List.{AllByRecursion}
 use Rattle.std.proofs.ByRecursion.{kept_by_passes}
 use Rattle.std.proofs.lemmas.List.{at_drop_all, drop_at, drop_more, length-append, take_at}
 use Rattle.std.proofs.lemmas.Bool.Decides.{nat_tests}
@@ -87,7 +87,7 @@ words_rest (b ∷ bs) =
     (λ o. simp (o, words_at_word b bs o))
 
 -- words are never empty
-short_list : (ws : List (List ℕ)) → All (λ w. filled w ≡ true) ws → (n : ℕ) → eqb (length (get_or ws n [])) 0 ≡ leb (length ws) n
+short_list : (ws : List (List ℕ)) → AllByRecursion (λ w. filled w ≡ true) ws → (n : ℕ) → eqb (length (get_or ws n [])) 0 ≡ leb (length ws) n
 short_list [] a n = grind (arith, nat_tests)
 short_list ([] ∷ ws) a n = let z : ◌≡◌ {A = ℕ} 0 1 = cc a.0 in absurd (omega arith)
 short_list ((b ∷ w) ∷ ws) a zero = grind (arith, nat_tests)

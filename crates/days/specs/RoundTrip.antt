@@ -1,6 +1,6 @@
 -- What is written of a day is read back as that day.
 use Rattle.std.specs.Prelude.{◌≡◌, ◌<◌, List, Ok}
-use Rattle.std.specs.List.{AllByRecursion as All}
+use Rattle.std.specs.List.{AllByRecursion}
 use Rattle.visit.specs.declared.Terms.{Terms}
 use Rattle.command.specs.declared.Command.{Command}
 use Rattle.command.specs.declared.Command.TheVariants.{Reading, Watermark}
@@ -17,4 +17,4 @@ CommandFits (Reading e) = (e.card < word_limit) × (e.time < number_limit) × (e
 CommandFits (Watermark m) = m < number_limit
 
 abbrev pub ParsesBack : Type 0
-ParsesBack = (t : Terms) (cs : List Command) → TermsFit t → All CommandFits cs → parsed_day (day_text t cs) ≡ Ok (t, cs)
+ParsesBack = (t : Terms) (cs : List Command) → TermsFit t → AllByRecursion CommandFits cs → parsed_day (day_text t cs) ≡ Ok (t, cs)

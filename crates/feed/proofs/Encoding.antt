@@ -3,7 +3,7 @@ use Rattle.std.proofs.Common.{◌≡◌, ℕ, zero, suc, ◌/◌, ◌^◌, ◌<�
 use Rattle.std.proofs.lemmas.Bool.Decides.{nat_tests}
 use Rattle.std.proofs.lemmas.Nat.{div_below, pow-add}
 use Rattle.std.proofs.lemmas.List.{append_assoc, append-nil, drop_at}
-use Rattle.std.specs.List.{flat_map, AllByRecursion as All}
+use Rattle.std.specs.List.{flat_map, AllByRecursion}
 use Rattle.visit.specs.declared.Terms.{Terms}
 use Rattle.command.specs.declared.Command.{Command}
 use Rattle.command.specs.declared.Command.TheVariants.{Reading, Watermark}
@@ -47,21 +47,21 @@ command_back (Watermark m) rest h =
     simp (z, p)
 
 -- Commands that are written one behind another are those that are read, then those of what stands behind them.
-pub commands_back : (cs : List Command) (rest : List ℕ) → All (λ c. storable c ≡ true) cs → commands (flat_map command_bytes cs ++ rest) ≡ cs ++ commands rest
+pub commands_back : (cs : List Command) (rest : List ℕ) → AllByRecursion (λ c. storable c ≡ true) cs → commands (flat_map command_bytes cs ++ rest) ≡ cs ++ commands rest
 commands_back [] rest h = refl
 commands_back (c ∷ cs) rest h =
     let e = command_back c (flat_map command_bytes cs ++ rest) h.0 in
     let d = drop_at (command_bytes c) (flat_map command_bytes cs ++ rest) _ refl in
     rw append_assoc (commands_next _ c _ e ∙ (ap (λ (l : List ℕ). c ∷ commands l) d ∙ ap (λ (l : List Command). c ∷ l) (commands_back cs rest h.1)))
 
-pub unread_back : (cs : List Command) (rest : List ℕ) → All (λ c. storable c ≡ true) cs → unread (flat_map command_bytes cs ++ rest) ≡ unread rest
+pub unread_back : (cs : List Command) (rest : List ℕ) → AllByRecursion (λ c. storable c ≡ true) cs → unread (flat_map command_bytes cs ++ rest) ≡ unread rest
 unread_back [] rest h = refl
 unread_back (c ∷ cs) rest h =
     let e = command_back c (flat_map command_bytes cs ++ rest) h.0 in
     let d = drop_at (command_bytes c) (flat_map command_bytes cs ++ rest) _ refl in
     rw append_assoc (unread_next _ c _ e ∙ (ap unread d ∙ unread_back cs rest h.1))
 
-file_back : (cs : List Command) → All (λ c. storable c ≡ true) cs → (commands (flat_map command_bytes cs) ≡ cs) × (unread (flat_map command_bytes cs) ≡ 0)
+file_back : (cs : List Command) → AllByRecursion (λ c. storable c ≡ true) cs → (commands (flat_map command_bytes cs) ≡ cs) × (unread (flat_map command_bytes cs) ≡ 0)
 unfolding commands unread
 file_back cs h =
     let p = commands_back cs [] h in

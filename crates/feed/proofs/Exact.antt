@@ -5,14 +5,14 @@ use Rattle.std.proofs.ByRecursion.{All-drop, All-take}
 use Rattle.std.proofs.lemmas.List.{drop-drop, length-take-le, take-append-drop}
 use Rattle.std.proofs.lemmas.Bool.{cond_both, eqb-true, ltb-false}
 use Rattle.std.proofs.lemmas.Bool.Decides.{nat_tests}
-use Rattle.std.specs.List.{flat_map, AllByRecursion as All}
+use Rattle.std.specs.List.{flat_map, AllByRecursion}
 use Rattle.command.specs.declared.Command.{Command}
 use Rattle.feed.specs.Bytes.{bytes_of, low_first, number_at}
 use Rattle.feed.specs.Files.{Lossless, command_bytes, commands, decoded, reading_in, storable, unread, watermark_in, whole}
 use Rattle.feed.proofs.Decoding.{commands_end, commands_next, decoded_empty, size_bound, unread_bound, unread_end, unread_next}
 
 abbrev Bytes : List ℕ → Type 0
-Bytes bs = All (λ b. b < 256) bs
+Bytes bs = AllByRecursion (λ b. b < 256) bs
 
 -- The bytes of the number that bytes make are those bytes, and it fits them.
 bytes_low_first : (bs : List ℕ) → Bytes bs → bytes_of (length bs) (low_first bs) ≡ bs

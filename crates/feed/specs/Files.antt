@@ -1,7 +1,7 @@
 -- Command files: 24 bytes of terms, then commands of 21 or 9 bytes.
 use Rattle.std.specs.Prelude.{◌≡◌, ℕ, zero, suc, ◌+◌, ◌-◌, ◌^◌, ◌<◌, Bool, true, cond, ◌&&◌, List, [], ◌∷◌, ◌++◌, length, take, drop, Some, None, Option, ◌==◌, nat_lt, slice_index}
 use Rattle.std.specs.Option.{option_map}
-use Rattle.std.specs.List.{flat_map, AllByRecursion as All}
+use Rattle.std.specs.List.{flat_map, AllByRecursion}
 use Rattle.visit.specs.declared.Terms.{Terms}
 use Rattle.command.specs.declared.Command.{Command}
 use Rattle.command.specs.declared.Command.TheVariants.{Reading, Watermark}
@@ -91,9 +91,9 @@ command_bytes (Watermark m) = 1 ∷ bytes_of 8 m
 pub record RoundTrip : Type 0 where
   pub terms : (t : Terms) (rest : List ℕ) → t.gap < 2 ^ 64 → t.lateness < 2 ^ 64 → t.day < 2 ^ 64 → terms_in (terms_bytes t ++ rest) ≡ Some t
   pub command : (c : Command) (rest : List ℕ) → storable c ≡ true → decoded (command_bytes c ++ rest) ≡ Some (c, length (command_bytes c))
-  pub whole_file : (cs : List Command) → All (λ c. storable c ≡ true) cs → (commands (flat_map command_bytes cs) ≡ cs) × (unread (flat_map command_bytes cs) ≡ 0)
+  pub whole_file : (cs : List Command) → AllByRecursion (λ c. storable c ≡ true) cs → (commands (flat_map command_bytes cs) ≡ cs) × (unread (flat_map command_bytes cs) ≡ 0)
 
 -- Nothing is lost: a command that is read is storable, and written again it is the bytes that were read.
 pub record Lossless : Type 0 where
-  pub command : (bs : List ℕ) (c : Command) (k : ℕ) → All (λ b. b < 256) bs → decoded bs ≡ Some (c, k) → (command_bytes c ≡ take k bs) × (storable c ≡ true)
-  pub whole_file : (bs : List ℕ) → All (λ b. b < 256) bs → flat_map command_bytes (commands bs) ++ drop (length bs - unread bs) bs ≡ bs
+  pub command : (bs : List ℕ) (c : Command) (k : ℕ) → AllByRecursion (λ b. b < 256) bs → decoded bs ≡ Some (c, k) → (command_bytes c ≡ take k bs) × (storable c ≡ true)
+  pub whole_file : (bs : List ℕ) → AllByRecursion (λ b. b < 256) bs → flat_map command_bytes (commands bs) ++ drop (length bs - unread bs) bs ≡ bs
