@@ -1,5 +1,5 @@
 // Lists of readings: whether one is there, and one put at its place.
-ghost use Rattle.model.specs.Sessions.{contains as Contains, insert_reading};
+ghost use Rattle.model.specs.Sessions.{contains, insert_reading};
 ghost use Rattle.std.specs.Prelude.{◌≡◌, IfOk};
 
 use crate::order::place;
@@ -7,7 +7,7 @@ use std::alloc::{AllocError, Global};
 use visit::{Reading, Terms};
 
 pub fn contains(readings: &[Reading], e: Reading, terms: Terms) -> bool
-    ensures { result ≡ Contains terms e readings.now }
+    ensures { result ≡ contains terms e readings.now }
 {
     for x in readings {
         if e.same(*x, terms) {

@@ -2,7 +2,7 @@
 #![tactic(auto)]
 
 ghost use Rattle.std.specs.Prelude.{◌≡◌, ◌+◌, ◌-◌, ◌*◌, ◌≤◌, not, length, drop, replicate};
-ghost use Rattle.model.specs.Sessions.{contains as Contains, insert_reading};
+ghost use Rattle.model.specs.Sessions.{contains, insert_reading};
 ghost use Rattle.model.specs.Store.{kept_only};
 ghost use Rattle.rows.specs.Readings.{reading_width};
 ghost use Rattle.seen.specs.Table.{readings_held, readings_in};
@@ -60,7 +60,7 @@ impl Keep<Reading> for Same {
 // Whether the reading is among the n of the table.
 pub fn contains(table: &[u64], n: usize, reading: Reading, terms: Terms) -> bool
     requires { n * reading_width ≤ length table.now }
-    ensures { result ≡ Contains terms reading (readings_in n table.now) }
+    ensures { result ≡ contains terms reading (readings_in n table.now) }
 {
     let same = Same { terms, reading };
     find::<Reading, Same>(table, n, &same) < n
