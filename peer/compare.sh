@@ -10,13 +10,13 @@
 set -euo pipefail
 
 here=$(cd "$(dirname "${BASH_SOURCE[0]}")" && pwd)
-bin=$(dirname "$here")/target/bin
+crates=$(dirname "$here")/crates
 programs=()
 
 add() { # NAME PATH
     [[ -n $2 ]] || return 0
     if [[ ! -x $2 ]]; then
-        echo "compare: there is no $1 at $2; build it with: rt check" >&2
+        echo "compare: there is no $1 at $2; build it with: rt check in its folder" >&2
         exit 2
     fi
     programs+=("$2")
@@ -32,8 +32,8 @@ if [[ $# -gt 2 || ! $count =~ ^[0-9]+$ || ! $seed =~ ^[0-9]+$ ]]; then
     echo "usage: compare.sh [--slow] [COUNT] [SEED]" >&2
     exit 2
 fi
-add settle "${SETTLE-$bin/settle}"
-add recompute "${RECOMPUTE-$bin/recompute}"
+add settle "${SETTLE-$crates/settle/out/settle}"
+add recompute "${RECOMPUTE-$crates/recompute/out/recompute}"
 add slow.py "$slow"
 
 work=$(mktemp -d)

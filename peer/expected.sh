@@ -7,7 +7,7 @@ work=$(mktemp -d)
 trap 'rm -rf "$work"' EXIT
 rustc -O --edition 2024 peer/peer.rs -o "$work/peer"
 mkdir "$work/days"
-target/bin/scenarios "$work/days" > "$work/names"
+crates/scenarios/out/scenarios "$work/days" > "$work/names"
 while read -r name; do
   echo "== $name"
   if ! "$work/peer" "$work/days/$name.cmd" 2> "$work/errors"; then

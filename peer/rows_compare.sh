@@ -6,7 +6,7 @@
 # anything differs. BOUNDARIES gives another path for the program.
 set -eu
 here=$(cd "$(dirname "$0")" && pwd)
-program=${BOUNDARIES:-$(dirname "$here")/target/bin/boundaries}
+program=${BOUNDARIES:-$(dirname "$here")/crates/boundaries/out/boundaries}
 count=${1:-1000} seed=${2:-1}
 work=$(mktemp -d)
 trap 'rm -rf "$work"' EXIT
