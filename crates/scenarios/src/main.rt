@@ -1,4 +1,4 @@
-// Days that should behave as the rules say, each reported on standard output under its name. The expected
+// Days that should behave as the rules say, each reported on standard output under its name by the reference, to which a store is held. The expected
 // output is not ours: `peer/expected.sh` has an independent program work it out from the files that
 // `scenarios DIR` writes.
 #![tactic(auto)]
@@ -11,9 +11,11 @@ mod tests;
 use anyhow::anyhow;
 use convert::PackError;
 use named::DAYS;
+use report::Report;
 use std::alloc::Global;
 use std::io::Write;
 use std::{env, fs};
+use store::capacity::FULL;
 
 const RANDOM_DAYS: u64 = 40;
 
@@ -52,6 +54,20 @@ fn random_day(heap: Global, seed: u64) -> anyhow::Result<Day> {
     })
 }
 
+// The store must print what the reference prints; a difference is shown, and is not in the expected output.
+fn compare(rt: &HostRuntime, day: &Day, expected: &Report) -> anyhow::Result<()> {
+    let settled = report::by_store::settle(rt.alloc(), FULL, day.file.as_slice())?;
+    let same = match &settled {
+        Some(report) => report.text.as_str() == expected.text.as_str()
+            && report.unread == expected.unread,
+        None => false,
+    };
+    if !same {
+        println!(rt; "the store prints something else")?;
+    }
+    Ok(())
+}
+
 // Reports a day, or writes its file into a folder.
 fn show(rt: &HostRuntime, folder: &Option<String>, day: &Day) -> anyhow::Result<()> {
     let heap = rt.alloc();
@@ -68,6 +84,7 @@ fn show(rt: &HostRuntime, folder: &Option<String>, day: &Day) -> anyhow::Result<
         return Ok(());
     };
     rt.stdout().write_all(report.text.as_bytes())?;
+    compare(rt, day, &report)?;
     if report.unread > 0 {
         let at = day.file.len().saturating_sub(report.unread);
         println!(rt; "stopped at byte {at}")?;
