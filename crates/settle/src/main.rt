@@ -1,4 +1,4 @@
-// Does the commands of a file and prints what changes. Until the store stands it works over the reference.
+// Does the commands of a file and prints what changes. It works over the reference until the store takes its place.
 #![tactic(auto)]
 
 use anyhow::anyhow;
