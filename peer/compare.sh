@@ -16,7 +16,7 @@ programs=()
 add() { # NAME PATH
     [[ -n $2 ]] || return 0
     if [[ ! -x $2 ]]; then
-        echo "compare: there is no $1 at $2; build it with: rt check in its folder" >&2
+        echo "compare: there is no $1 at $2; build it in its folder with: rt run -- --version" >&2
         exit 2
     fi
     programs+=("$2")
