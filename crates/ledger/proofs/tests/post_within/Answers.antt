@@ -19,9 +19,9 @@ post-requires c =
     let out = c.args.out.now in
     let rest = drop (new_at out) out in
     let few : new_count out * visit_width ≤ length rest = simp length-drop (omega arith) in
-    let lines = none_over line_laws line_limits line_limited 0 n xs (omega arith) (sym c.first-over.ensures ∙ c.in-None.is) in
+    let lines = none_over line_laws line_limits line_limited 0 n xs (omega arith) (sym c.first_over.ensures ∙ c.in-None.is) in
     let over : first_over 0 (repeat (new_count out) visit_limits) rest ≡ None =
-    ap (first_over 0 (repeat (new_count out) visit_limits)) (sym (take_rest out (new_at out))) ∙ sym c.first-over-2.ensures ∙ c.in-None-first-over.is in
+    ap (first_over 0 (repeat (new_count out) visit_limits)) (sym (take_rest out (new_at out))) ∙ sym c.first_over-2.ensures ∙ c.in-None-first_over.is in
     let visits = none_over visit_laws visit_limits visit_limited 0 (new_count out) rest few over in
     record {
       within = omega arith;
