@@ -1,7 +1,6 @@
 -- From a reply and the row of changes back to the outcome.
-use Rattle.std.proofs.Common.{◌≡◌, ℕ, ◌+◌, ◌≤◌, List, length, drop, sym, refl, ap, ◌∙◌, arith}
+use Rattle.std.proofs.Common.{◌≡◌, ℕ, ◌+◌, ◌≤◌, List, length, drop, ap, ◌∙◌, arith}
 use Rattle.std.proofs.lemmas.List.{length-append}
-use Rattle.visit.specs.declared.Visit.{Visit}
 use Rattle.command.specs.declared.Refusal.{Refusal}
 use Rattle.command.specs.declared.Reply.TheVariants.{Done, Refused}
 use Rattle.command.specs.Outcomes.{Outcome, changed, refused, reply_of}

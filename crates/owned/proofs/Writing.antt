@@ -1,5 +1,5 @@
 -- Rows that commands have written: each command keeps them so, and they are stores while the totals are below their limits.
-use Rattle.std.proofs.Common.{◌≡◌, ℕ, ◌+◌, ◌<◌, ◌≤◌, min, Bool, true, ltb, List, [], ◌∷◌, ◌++◌, length, drop, Some, None, Err, Option, Result, sym, refl, ap, ◌∙◌, subst, arith}
+use Rattle.std.proofs.Common.{◌≡◌, ℕ, ◌+◌, ◌<◌, ◌≤◌, min, true, ltb, List, [], ◌∷◌, ◌++◌, length, drop, Some, None, Err, Option, Result, sym, refl, ap, ◌∙◌, subst, arith}
 use Rattle.std.proofs.lemmas.Bool.Decides.{nat_tests}
 use Rattle.visit.specs.declared.Terms.{Terms}
 use Rattle.visit.specs.Readings.{too_late}
@@ -17,7 +17,7 @@ use Rattle.store.specs.Contents.{empty_row}
 use Rattle.store.specs.Faults.{command_in, first_fault}
 use Rattle.store.specs.Layout.{store_size}
 use Rattle.store.proofs.Knowing.{sound_by}
-use Rattle.guarantees.specs.AnyTime.{reference_now, row_now}
+use Rattle.guarantees.specs.AnyTime.{reference_now}
 use Rattle.guarantees.specs.Calls.{Call, answer, row_left}
 use Rattle.guarantees.specs.Faithful.{call_faults, next, planned, reference_left, withheld}
 use Rattle.guarantees.specs.Rows.{clean_row}

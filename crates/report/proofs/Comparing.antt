@@ -19,7 +19,7 @@ use Rattle.store.specs.Contents.{empty_row, header_in}
 use Rattle.store.specs.Faults.{command_in}
 use Rattle.store.specs.Layout.{lines_room, store_size}
 use Rattle.store.specs.Parts.{parts}
-use Rattle.guarantees.specs.Calls.{Call, answer}
+use Rattle.guarantees.specs.Calls.{Call}
 use Rattle.guarantees.specs.Faithful.{next, planned}
 use Rattle.guarantees.specs.Rows.{Fits, clean_row}
 use Rattle.guarantees.specs.Unhindered.{Whole}

@@ -1,9 +1,8 @@
 -- What passed checks allow: the command can be drafted and finished, and every sum fits in 64 bits.
-use Rattle.std.proofs.Common.{◌≡◌, ℕ, ◌+◌, ◌*◌, ◌^◌, ◌<◌, ◌≤◌, min, Bool, true, false, cond, not, ◌&&◌, ltb, leb, List, [], ◌∷◌, ◌++◌, length, Some, None, sum_by, filter, Option, sym, refl, ap, ◌∙◌, subst, arith}
+use Rattle.std.proofs.Common.{◌≡◌, ℕ, ◌+◌, ◌^◌, ◌<◌, ◌≤◌, min, Bool, true, false, cond, not, ltb, leb, List, [], ◌∷◌, length, Some, None, sum_by, filter, Option, refl, ap, arith}
 use Rattle.std.specs.List.{AllByRecursion}
 use Rattle.std.proofs.ByRecursion.{All-weaker, sum_by_le}
-use Rattle.std.proofs.lemmas.List.{length-append}
-use Rattle.std.proofs.lemmas.List.Sums.{sum_by-append, sum_by-cons}
+use Rattle.std.proofs.lemmas.List.Sums.{sum_by-cons}
 use Rattle.std.proofs.lemmas.Bool.{leb-true, ltb-true}
 use Rattle.std.proofs.lemmas.Bool.Decides.{nat_tests}
 use Rattle.visit.specs.declared.Line.{Line}
@@ -11,13 +10,12 @@ use Rattle.visit.specs.declared.Reading.{Reading}
 use Rattle.visit.specs.declared.Terms.{Terms}
 use Rattle.visit.specs.declared.Visit.{Visit}
 use Rattle.visit.specs.Visits.{closed, merged, near, same_visit, single, visit_before}
-use Rattle.command.specs.declared.Command.{Command}
 use Rattle.command.specs.declared.Command.TheVariants.{Reading as AReading, Watermark}
 use Rattle.command.specs.declared.Refusal.TheVariants.{BadCommand, Full}
 use Rattle.command.specs.Bounds.{command_fault, fields, first_over as first_field, time_limit, word_limit}
 use Rattle.command.specs.Outcomes.{Outcome, changed, refused}
 use Rattle.model.specs.Sessions.{closed_visits, difference, some}
-use Rattle.model.specs.Store.{Store, draft, merge_in}
+use Rattle.model.specs.Store.{Store, merge_in}
 use Rattle.model.proofs.Common.{kept_shorter, split}
 use Rattle.rows.specs.Limits.{first_over}
 use Rattle.rows.specs.Lines.{line_cells, line_limits}
@@ -25,18 +23,16 @@ use Rattle.rows.specs.Visits.{visit_cells, visit_limits}
 use Rattle.rows.proofs.Overs.{mapped_none}
 use Rattle.ledger.specs.Fits.{Fits, FitsIn}
 use Rattle.live.specs.Tables.{counts, open_only, sums}
-use Rattle.live.specs.Walk.{left_over, taken_in}
 use Rattle.live.proofs.Parts.{length_merged, length_parts}
 use Rattle.changes.specs.Changed.{newly_closed}
 use Rattle.changes.proofs.Counts.{merging_fewer}
 use Rattle.changes.proofs.Differences.{only_newly_closed}
 use Rattle.store.specs.declared.capacity.Capacity.{Capacity}
 use Rattle.store.specs.declared.header.Header.{Header}
-use Rattle.store.specs.Checks.{refusal_of}
 use Rattle.store.specs.Faults.{room_fault}
 use Rattle.store.specs.Header.{Counted}
 use Rattle.store.specs.Layout.{lines_room, readings_room, visits_room}
-use Rattle.store.specs.Steps.{Performable, draft_of, new_of}
+use Rattle.store.specs.Steps.{Performable}
 use Rattle.store.proofs.Drafting.{length_inserted_reading}
 
 -- A visit and a line within their limits.

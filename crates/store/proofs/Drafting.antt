@@ -1,5 +1,5 @@
 -- A reading drafted: its visit takes in the near ones, is put in its place, and the reading is put among the kept ones.
-use Rattle.std.proofs.Common.{◌≡◌, ℕ, ◌+◌, ◌*◌, ◌<◌, ◌≤◌, max, Bool, true, false, cond, List, [], ◌∷◌, ◌++◌, length, take, sym, refl, ap, ◌∙◌, arith}
+use Rattle.std.proofs.Common.{◌≡◌, ℕ, ◌+◌, ◌≤◌, max, Bool, List, [], ◌∷◌, ◌++◌, length, take, sym, refl, ap, ◌∙◌, arith}
 use Rattle.std.specs.List.{insert}
 use Rattle.std.proofs.lemmas.List.{length-append, take_at}
 use Rattle.visit.specs.declared.Reading.{Reading}
@@ -11,7 +11,7 @@ use Rattle.command.specs.declared.Command.TheVariants.{Reading as AReading}
 use Rattle.model.specs.Sessions.{at_place, insert_reading}
 use Rattle.model.specs.Store.{merge_in}
 use Rattle.model.proofs.Common.{split}
-use Rattle.rows.specs.Visits.{visit_cells, visit_laws, visit_made, visit_width}
+use Rattle.rows.specs.Visits.{visit_laws, visit_made, visit_width}
 use Rattle.rows.specs.Readings.{reading_made, reading_width}
 use Rattle.rows.proofs.Holding.{holding_again}
 use Rattle.rows.proofs.Splits.{length_rows}

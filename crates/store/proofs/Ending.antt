@@ -1,13 +1,11 @@
 -- From the tables as they were to the tables at the end.
-use Rattle.std.proofs.Common.{◌≡◌, ℕ, ◌+◌, ◌*◌, ◌≤◌, max, List, [], ◌∷◌, ◌++◌, length, take, drop, sym, refl, ap, ◌∙◌, subst, arith}
+use Rattle.std.proofs.Common.{◌≡◌, ℕ, ◌+◌, ◌*◌, ◌≤◌, max, List, ◌++◌, length, drop, sym, refl, ap, ◌∙◌, subst, arith}
 use Rattle.std.proofs.lemmas.List.{append_assoc, drop_at, drop-drop, length-append}
 use Rattle.visit.specs.declared.Line.{Line}
-use Rattle.visit.specs.declared.Reading.{Reading}
-use Rattle.visit.specs.declared.Terms.{Terms}
 use Rattle.visit.specs.declared.Visit.{Visit}
 use Rattle.visit.specs.Readings.{kept}
 use Rattle.visit.specs.Visits.{live}
-use Rattle.model.specs.Store.{Draft, Store, finish, kept_only, live_only}
+use Rattle.model.specs.Store.{Draft, finish, kept_only, live_only}
 use Rattle.model.proofs.Common.{kept_shorter}
 use Rattle.rows.specs.Readings.{reading_laws, reading_made, reading_width}
 use Rattle.rows.specs.Rows.{Laws, cells_of, holding, rows_in}
@@ -21,7 +19,7 @@ use Rattle.ledger.specs.Fits.{Fits, sums}
 use Rattle.ledger.specs.Out.{gone_in, new_count, new_in, out_end}
 use Rattle.ledger.specs.Table.{lines_in}
 use Rattle.store.specs.declared.header.Header.{Header}
-use Rattle.store.specs.Contents.{header_of, parts_after, store_of}
+use Rattle.store.specs.Contents.{parts_after, store_of}
 use Rattle.store.specs.Header.{header_cells}
 use Rattle.store.specs.Parts.{Parts}
 use Rattle.store.specs.Steps.{drafted_header, drafted_parts, finished_parts, gone_of, new_of}

@@ -1,9 +1,8 @@
 -- A row that is known to be a store.
-use Rattle.std.proofs.Common.{◌≡◌, ℕ, ◌≤◌, true, false, ltb, List, length, None, Ok, Err, Result, sym, refl, ap, ◌∙◌, subst}
+use Rattle.std.proofs.Common.{◌≡◌, ℕ, ◌≤◌, true, ltb, List, length, None, Ok, Err, Result, sym, refl, ap, ◌∙◌}
 use Rattle.std.specs.List.{AllByRecursion}
 use Rattle.std.proofs.lemmas.Bool.{true≢false}
 use Rattle.command.specs.declared.Refusal.{Refusal}
-use Rattle.store.specs.declared.header.Header.{Header}
 use Rattle.store.specs.Checks.{is_ok, sound_header, sound_row}
 use Rattle.store.specs.Contents.{header_in}
 use Rattle.store.specs.Faults.{store_faults}

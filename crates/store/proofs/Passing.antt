@@ -1,5 +1,5 @@
 -- What is known once all checks have passed.
-use Rattle.std.proofs.Common.{◌≡◌, ℕ, List, [], ◌∷◌, ◌++◌, length, Some, None, Ok, Err, Option, Result, sym, refl, ap, ◌∙◌, arith}
+use Rattle.std.proofs.Common.{◌≡◌, ℕ, List, [], ◌∷◌, ◌++◌, Some, None, Ok, Err, Option, Result, sym, refl, ap, ◌∙◌, arith}
 use Rattle.std.specs.List.{AllByRecursion}
 use Rattle.command.specs.declared.Refusal.{Refusal}
 use Rattle.command.specs.Bounds.{terms_fault}
@@ -9,7 +9,7 @@ use Rattle.store.specs.declared.checks.Ready.{Ready}
 use Rattle.store.specs.Checks.{checked, command_checked, made_ready, refusal_of, sound_terms, then, with_out}
 use Rattle.store.specs.Contents.{header_in, store_in, terms_in}
 use Rattle.store.specs.Faults.{command_in, faults, first_fault, out_fault, row_fault, store_faults, verdict, watermark_fault}
-use Rattle.store.proofs.Places.{fault_stands, no_fault, no_fault_is, none_found}
+use Rattle.store.proofs.Places.{no_fault, no_fault_is}
 
 pub then_fault : {X Y : Type 0} (fs : List (Option Refusal)) (x : X) (f : X → Result Y Refusal) → then (first_fault fs (Ok x)) f ≡ first_fault fs (f x)
 then_fault [] x f = refl

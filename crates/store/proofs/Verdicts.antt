@@ -1,5 +1,5 @@
 -- From the checks to the definition: a refusal is the verdict's, and where none is found the draft stands and can be carried out.
-use Rattle.std.proofs.Common.{◌≡◌, ℕ, ◌*◌, ◌<◌, ◌≤◌, Bool, true, false, cond, ltb, List, [], ◌∷◌, ◌++◌, length, get_or, drop, Some, None, Ok, Err, Option, Result, sym, refl, ap, ◌∙◌, subst, arith}
+use Rattle.std.proofs.Common.{◌≡◌, ℕ, ◌≤◌, Bool, true, false, cond, ltb, List, [], ◌∷◌, ◌++◌, length, get_or, Some, None, Ok, Err, Option, Result, sym, refl, ap, ◌∙◌, subst, arith}
 use Rattle.std.specs.List.{AllByRecursion}
 use Rattle.std.proofs.lemmas.List.Edits.{length-between}
 use Rattle.std.proofs.lemmas.Bool.{ltb-false}
@@ -14,7 +14,7 @@ use Rattle.command.specs.Bounds.{command_fault}
 use Rattle.command.specs.Outcomes.{reply_of}
 use Rattle.model.specs.Sessions.{contains}
 use Rattle.model.specs.Store.{Draft, Store, draft, finish}
-use Rattle.rows.specs.Lines.{line_laws, line_limited, line_limits, line_made, line_width}
+use Rattle.rows.specs.Lines.{line_laws, line_limited, line_limits}
 use Rattle.rows.specs.Readings.{reading_made, reading_width}
 use Rattle.rows.specs.Visits.{visit_laws, visit_limited, visit_limits, visit_made, visit_width}
 use Rattle.rows.proofs.Overs.{mapped_none, none_over}
@@ -27,8 +27,7 @@ use Rattle.store.specs.declared.header.Header.{Header}
 use Rattle.store.specs.Applied.{outcome_in, row_by}
 use Rattle.store.specs.Checks.{refusal_of}
 use Rattle.store.specs.Contents.{header_in, parts_after, store_in, store_of, terms_in}
-use Rattle.store.specs.Faults.{command_in, faults, known_kind, room_fault, row_fault, verdict}
-use Rattle.store.specs.Header.{Counted}
+use Rattle.store.specs.Faults.{command_in, faults, known_kind, room_fault, verdict}
 use Rattle.store.specs.Layout.{lines_at, readings_at, store_size, visits_at}
 use Rattle.store.specs.Parts.{parts}
 use Rattle.store.specs.Steps.{Performable, changes_of, draft_of}

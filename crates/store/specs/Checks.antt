@@ -3,7 +3,7 @@ use Rattle.std.specs.Prelude.{ℕ, Bool, true, false, cond, List, [], ◌∷◌,
 use Rattle.command.specs.declared.Command.{Command}
 use Rattle.command.specs.declared.Refusal.{Refusal}
 use Rattle.command.specs.Bounds.{terms_fault}
-use Rattle.model.specs.Store.{Draft, Store, draft}
+use Rattle.model.specs.Store.{Store, draft}
 use Rattle.store.specs.declared.capacity.Capacity.{Capacity}
 use Rattle.store.specs.declared.checks.Ready.{Ready}
 use Rattle.store.specs.declared.header.Header.{Header}

@@ -1,10 +1,9 @@
-use Rattle.std.proofs.Common.{◌≡◌, length, vec_items, sym, ap, ◌∙◌}
+use Rattle.std.proofs.Common.{length, vec_items, ap, ◌∙◌}
 use Rattle.std.proofs.lemmas.Result.{IfOk-from_err}
-use Rattle.command.specs.Outcomes.{changed, outcome_of}
-use Rattle.ledger.specs.Out.{gone_in, new_in}
+use Rattle.command.specs.Outcomes.{changed}
+use Rattle.ledger.specs.Out.{gone_in}
 use Rattle.store.specs.Applied.{outcome_in, row_by}
 use Rattle.store.specs.Faults.{verdict}
-use Rattle.owned.specs.Rows.{outcome_to}
 use Rattle.owned.proofs.Told.{done_outcome, refused_outcome}
 use Rattle.owned.proofs.answer.Goals as goal
 

@@ -1,10 +1,10 @@
-use Rattle.std.proofs.Common.{◌≡◌, ℕ, ◌-◌, List, length, take, drop, Some, sym, ap, ◌∙◌}
+use Rattle.std.proofs.Common.{ℕ, ◌-◌, List, length, take, drop, Some, sym, ap, ◌∙◌}
 use Rattle.std.proofs.lemmas.List.{take_rest}
 use Rattle.std.proofs.lemmas.Result.{IfOk-from_err}
 use Rattle.feed.specs.Files.{commands, unread}
 use Rattle.store.specs.declared.capacity.Capacity.{Capacity}
 use Rattle.changes.specs.Room.{out_width}
-use Rattle.owned.specs.State.{capacity_of, out_long, row_of}
+use Rattle.owned.specs.State.{out_long, row_of}
 use Rattle.report.specs.Texts.{settle_text, store_prints}
 use Rattle.report.specs.Whole.{Reported}
 use Rattle.report.proofs.Comparing.{as_recomputed}

@@ -1,4 +1,4 @@
-use Rattle.std.proofs.Common.{◌≡◌, sym, ap, ◌∙◌}
+use Rattle.std.proofs.Common.{sym, ap, ◌∙◌}
 use Rattle.command.specs.declared.Command.{Command}
 use Rattle.changes.specs.Out.{outcome_count, outcome_row, overlay}
 use Rattle.store.specs.Contents.{store_of}

@@ -1,4 +1,4 @@
-use Rattle.std.proofs.Common.{◌≡◌, ap, arith}
+use Rattle.std.proofs.Common.{ap, arith}
 use Rattle.store.specs.declared.header.Header.{Header}
 use Rattle.store.specs.Contents.{store_of}
 use Rattle.store.specs.Parts.{parts}

@@ -1,4 +1,4 @@
-use Rattle.std.proofs.Common.{◌≡◌, Err, ap, ◌∙◌}
+use Rattle.std.proofs.Common.{Err, ap, ◌∙◌}
 use Rattle.std.proofs.lemmas.Result.{err_from_is_err_and}
 use Rattle.store.proofs.Bounds.{is_sound}
 use Rattle.store.proofs.Stops.{comes_to, stops_at_command, stops_at_out, stops_at_store, stops_at_terms}

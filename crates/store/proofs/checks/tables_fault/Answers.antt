@@ -1,4 +1,4 @@
-use Rattle.std.proofs.Common.{◌≡◌, [], ◌∷◌, Ok, sym, ap, ◌∙◌, arith}
+use Rattle.std.proofs.Common.{[], ◌∷◌, Ok, sym, ap, ◌∙◌, arith}
 use Rattle.model.specs.Reference.{or_fault}
 use Rattle.store.specs.Faults.{first_fault, lines_fault, readings_fault, visits_fault}
 use Rattle.store.proofs.Places.{fault_at, none_found}

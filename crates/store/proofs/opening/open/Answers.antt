@@ -1,4 +1,4 @@
-use Rattle.std.proofs.Common.{◌≡◌, cond, [], ◌∷◌, length, Some, None, Ok, sym, ap, ◌∙◌}
+use Rattle.std.proofs.Common.{cond, [], ◌∷◌, length, Some, None, Ok, sym, ap, ◌∙◌}
 use Rattle.std.proofs.lemmas.Bool.{le-ltb}
 use Rattle.command.specs.declared.Refusal.TheVariants.{BadStore}
 use Rattle.command.specs.Bounds.{terms_fault}

@@ -1,10 +1,8 @@
-use Rattle.std.proofs.Common.{◌≡◌, ◌+◌, ◌*◌, ◌≤◌, max, ◌++◌, length, take, sym, refl, ap, ◌∙◌, arith}
+use Rattle.std.proofs.Common.{max, length, refl, ap, ◌∙◌, arith}
 use Rattle.std.proofs.lemmas.List.Edits.{length-between}
 use Rattle.visit.specs.declared.Visit.{Visit}
-use Rattle.visit.specs.Visits.{single}
 use Rattle.model.specs.Store.{merge_in}
 use Rattle.live.specs.Tables.{visits_held, visits_in}
-use Rattle.live.specs.Walk.{left_over, placed_of, taken_in}
 use Rattle.changes.specs.Changed.{merging}
 use Rattle.changes.specs.Out.{outcome_count, outcome_row, overlay}
 use Rattle.store.specs.Layout.{readings_at, visits_at}

@@ -1,6 +1,6 @@
-use Rattle.std.proofs.Common.{◌≡◌, ◌-◌, ◌≤◌, length, ap, ◌∙◌, arith}
+use Rattle.std.proofs.Common.{◌≡◌, ◌-◌, length, ap, ◌∙◌, arith}
 use Rattle.std.proofs.lemmas.List.Edits.{length-between}
-use Rattle.store.specs.Layout.{lines_at, readings_at, store_size}
+use Rattle.store.specs.Layout.{lines_at, readings_at}
 use Rattle.store.specs.Parts.{parts, with_readings}
 use Rattle.store.proofs.Cuts.{parts_readings}
 use Rattle.store.proofs.tables.insert_reading.Goals as goal

@@ -1,5 +1,4 @@
-use Rattle.std.proofs.Common.{◌≡◌, length, ap, ◌∙◌, arith}
-use Rattle.std.proofs.lemmas.List.Edits.{length-between}
+use Rattle.std.proofs.Common.{◌≡◌, length, ap, ◌∙◌}
 use Rattle.store.specs.Layout.{visits_at}
 use Rattle.store.specs.Parts.{parts, with_header}
 use Rattle.store.proofs.Cuts.{parts_header}

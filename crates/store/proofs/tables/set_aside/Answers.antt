@@ -1,6 +1,6 @@
-use Rattle.std.proofs.Common.{◌≡◌, ◌-◌, ◌≤◌, length, ap, ◌∙◌, arith}
+use Rattle.std.proofs.Common.{◌≡◌, ◌-◌, length, ap, ◌∙◌, arith}
 use Rattle.std.proofs.lemmas.List.Edits.{length-between}
-use Rattle.store.specs.Layout.{readings_at, visits_at, store_size}
+use Rattle.store.specs.Layout.{readings_at, visits_at}
 use Rattle.store.specs.Parts.{parts, with_visits}
 use Rattle.store.proofs.Cuts.{parts_visits}
 use Rattle.store.proofs.tables.set_aside.Goals as goal
