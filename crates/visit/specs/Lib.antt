@@ -1,3 +1,5 @@
 pub mod Readings
 pub mod Visits
 pub mod Lines
+pub mod Text
+pub mod Sums

@@ -1,12 +1,13 @@
 // Readings, visits, ledger lines and the terms: values by value, and the named tests on them.
 #![tactic(auto)]
 
-ghost use Rattle.std.specs.Prelude.{◌≡◌, ◌+◌, ◌^◌, ◌<◌};
+ghost use Rattle.std.specs.Prelude.{◌≡◌, ◌+◌, ◌^◌, ◌<◌, Bool};
 ghost use Rattle.visit.specs.Lines.{day_of, line_before, line_minus, line_of, line_plus, same_key};
-ghost use Rattle.visit.specs.Readings.{gap_of, reading_before, same_reading};
-ghost use Rattle.visit.specs.Readings.{kept as Kept, too_late as Late};
-ghost use Rattle.visit.specs.Visits.{grown as Grown, joins as Joins, merged, near as Near, same_visit, single as Single, visit_before};
-ghost use Rattle.visit.specs.Visits.{closed as Closed, expired as Expired, live as Live};
+ghost use Rattle.visit.specs.Readings.{gap_of, reading_before, same_reading, kept as Kept, too_late as Late};
+ghost use Rattle.visit.specs.Visits.{grown as Grown, joins as Joins, merged, near as Near, same_visit, single as Single, visit_before, closed as Closed, expired as Expired, live as Live};
+ghost use Rattle.visit.specs.declared.Terms.{Terms};
+
+mod text;
 
 // One reading of a card. At one time the serial tells several readings of a card apart.
 #[derive(Clone, Copy, PartialEq, Eq, Debug)]
@@ -18,7 +19,7 @@ pub struct Reading {
 }
 
 // Readings of one card with no pause longer than the gap: first time, last time, how many, their sum.
-#[derive(Clone, Copy, PartialEq, Eq, Debug)]
+#[derive(Clone, Copy, Default, PartialEq, Eq, Debug)]
 pub struct Visit {
     pub card: u64,
     pub from: u64,
@@ -44,11 +45,25 @@ pub struct Terms {
     pub day: u64,
 }
 
+// The terms, and how far the watermark has come.
+#[derive(Clone, Copy, PartialEq, Eq, Debug)]
+pub struct Clock {
+    pub terms: Terms,
+    pub watermark: u64,
+}
+
+// What stands in an order under the terms.
+pub trait Ordered: Copy {
+    ghost precedes: { Terms → Self → Self → Bool };
+
+    fn before(self, other: Self, terms: Terms) -> bool
+        ensures { result ≡ precedes terms self other };
+}
+
 impl Terms {
-    pub fn gap_of(self, card: u64) -> u64
-        ensures { result ≡ gap_of self card }
+    pub fn gap_of(self, _card: u64) -> u64
+        ensures { result ≡ gap_of self _card }
     {
-        let _ = card;
         self.gap
     }
 
@@ -61,37 +76,24 @@ impl Terms {
 }
 
 impl Reading {
-    pub fn same(self, other: Reading, terms: Terms) -> bool
-        ensures { result ≡ same_reading terms self other }
+    // Whether it is the same reading, which may say another amount.
+    pub fn same(self, other: Reading, _terms: Terms) -> bool
+        ensures { result ≡ same_reading _terms self other }
     {
-        let _ = terms;
-        self.card == other.card && self.time == other.time && self.serial == other.serial
-    }
-
-    pub fn before(self, other: Reading, terms: Terms) -> bool
-        ensures { result ≡ reading_before terms self other }
-    {
-        let _ = terms;
-        if self.card != other.card {
-            return self.card < other.card;
-        }
-        if self.time != other.time {
-            return self.time < other.time;
-        }
-        self.serial < other.serial
+        (self.card, self.time, self.serial) == (other.card, other.time, other.serial)
     }
 
     // A difference that stops at 0 cannot wrap, so nothing is asked of the caller.
-    pub fn too_late(self, terms: Terms, watermark: u64) -> bool
-        ensures { result ≡ Late terms watermark self }
+    pub fn too_late(self, clock: Clock) -> bool
+        ensures { result ≡ Late clock.terms clock.watermark self }
     {
-        watermark.saturating_sub(self.time) > terms.lateness
+        clock.watermark.saturating_sub(self.time) > clock.terms.lateness
     }
 
-    pub fn kept(self, terms: Terms, watermark: u64) -> bool
-        ensures { result ≡ Kept terms watermark self }
+    pub fn kept(self, clock: Clock) -> bool
+        ensures { result ≡ Kept clock.terms clock.watermark self }
     {
-        !self.too_late(terms, watermark)
+        !self.too_late(clock)
     }
 
     // The reading as a visit of its own.
@@ -112,6 +114,14 @@ impl Reading {
         ensures { result ≡ Joins terms self visit }
     {
         self.card == visit.card && visit.from.saturating_sub(self.time) <= terms.gap_of(self.card)
+    }
+}
+
+impl Ordered for Reading {
+    ghost precedes = { reading_before };
+
+    fn before(self, other: Reading, _terms: Terms) -> bool {
+        (self.card, self.time, self.serial) < (other.card, other.time, other.serial)
     }
 }
 
@@ -155,43 +165,32 @@ impl Visit {
         }
     }
 
-    pub fn before(self, other: Visit, terms: Terms) -> bool
-        ensures { result ≡ visit_before terms self other }
+    pub fn same(self, other: Visit, _terms: Terms) -> bool
+        ensures { result ≡ same_visit _terms self other }
     {
-        let _ = terms;
-        self.card < other.card || self.card == other.card && self.from < other.from
+        self == other
     }
 
-    pub fn same(self, other: Visit, terms: Terms) -> bool
-        ensures { result ≡ same_visit terms self other }
+    pub fn closed(self, clock: Clock) -> bool
+        ensures { result ≡ Closed clock.terms clock.watermark self }
     {
-        let _ = terms;
-        self.card == other.card
-            && self.from == other.from
-            && self.to == other.to
-            && self.count == other.count
-            && self.sum == other.sum
+        clock.watermark.saturating_sub(self.to) > clock.terms.gap_of(self.card)
     }
 
-    pub fn closed(self, terms: Terms, watermark: u64) -> bool
-        ensures { result ≡ Closed terms watermark self }
+    pub fn expired(self, clock: Clock) -> bool
+        ensures { result ≡ Expired clock.terms clock.watermark self }
     {
-        watermark.saturating_sub(self.to) > terms.gap_of(self.card)
-    }
-
-    pub fn expired(self, terms: Terms, watermark: u64) -> bool
-        ensures { result ≡ Expired terms watermark self }
-    {
-        watermark
+        clock
+            .watermark
             .saturating_sub(self.to)
-            .saturating_sub(terms.gap_of(self.card))
-            > terms.lateness
+            .saturating_sub(clock.terms.gap_of(self.card))
+            > clock.terms.lateness
     }
 
-    pub fn live(self, terms: Terms, watermark: u64) -> bool
-        ensures { result ≡ Live terms watermark self }
+    pub fn live(self, clock: Clock) -> bool
+        ensures { result ≡ Live clock.terms clock.watermark self }
     {
-        !self.expired(terms, watermark)
+        !self.expired(clock)
     }
 
     // The ledger line that this visit makes alone.
@@ -207,19 +206,19 @@ impl Visit {
     }
 }
 
-impl Line {
-    pub fn same_key(self, other: Line, terms: Terms) -> bool
-        ensures { result ≡ same_key terms self other }
-    {
-        let _ = terms;
-        self.card == other.card && self.day == other.day
-    }
+impl Ordered for Visit {
+    ghost precedes = { visit_before };
 
-    pub fn before(self, other: Line, terms: Terms) -> bool
-        ensures { result ≡ line_before terms self other }
+    fn before(self, other: Visit, _terms: Terms) -> bool {
+        (self.card, self.from) < (other.card, other.from)
+    }
+}
+
+impl Line {
+    pub fn same_key(self, other: Line, _terms: Terms) -> bool
+        ensures { result ≡ same_key _terms self other }
     {
-        let _ = terms;
-        self.card < other.card || self.card == other.card && self.day < other.day
+        (self.card, self.day) == (other.card, other.day)
     }
 
     // The share of another line put to this one.
@@ -246,5 +245,13 @@ impl Line {
             visits: self.visits.saturating_sub(other.visits),
             sum: self.sum.saturating_sub(other.sum),
         }
+    }
+}
+
+impl Ordered for Line {
+    ghost precedes = { line_before };
+
+    fn before(self, other: Line, _terms: Terms) -> bool {
+        (self.card, self.day) < (other.card, other.day)
     }
 }
