@@ -1,5 +1,5 @@
 -- The bounds of terms and commands, and the refusals that they bring.
-use Rattle.std.specs.Prelude.{ℕ, ◌+◌, ◌^◌, cond, List, [], ◌∷◌, Some, None, Option, ◌==◌, nat_lt}
+use Rattle.std.specs.Prelude.{ℕ, ◌+◌, ◌^◌, cond, List, [], ◌∷◌, Some, None, Ok, Err, Option, Result, ◌==◌, nat_lt}
 use Rattle.std.specs.Option.{option_map}
 use Rattle.visit.specs.declared.Terms.{Terms}
 use Rattle.command.specs.declared.Command.{Command}
@@ -35,3 +35,12 @@ first_over i (f ∷ fs) = cond (nat_lt f.0 f.1) (first_over (i + 1) fs) (Some i)
 -- The kind has the place 0, so the fields begin at 1.
 abbrev pub command_fault : Command → Option Refusal
 command_fault c = option_map BadCommand (first_over 1 (fields c))
+
+-- A value, unless there is a fault.
+abbrev pub unless : {X : Type 0} → Option Refusal → X → Result X Refusal
+unless None x = Ok x
+unless (Some r) x = Err r
+
+-- The check of one number, which has this place.
+abbrev pub below : (number limit place : ℕ) → Result (Unit {0}) Refusal
+below number limit place = cond (nat_lt number limit) (Ok tt) (Err (BadCommand place))

@@ -1,9 +1,7 @@
 -- The number and the place of every refusal, and of every reply.
-use Rattle.std.specs.Prelude.{ℕ}
+use Rattle.std.specs.Prelude.{ℕ, Ok, Err, Result}
 use Rattle.command.specs.declared.Refusal.{Refusal}
 use Rattle.command.specs.declared.Refusal.TheVariants.{BadStore, BadTerms, BadCommand, TooLate, Duplicate, Backwards, Full, ShortOut}
-use Rattle.command.specs.declared.Reply.{Reply}
-use Rattle.command.specs.declared.Reply.TheVariants.{Done, Refused}
 
 abbrev pub number : Refusal → ℕ
 number (BadStore p) = 1
@@ -25,11 +23,15 @@ place (Backwards p) = p
 place (Full p) = p
 place (ShortOut p) = p
 
+-- How many visits changed, or why none did.
+abbrev pub Reply : Type 0
+Reply = Result ℕ Refusal
+
 -- A command that was done has the number 0, and its value is how many visits changed.
 abbrev pub reply_number : Reply → ℕ
-reply_number (Done n) = 0
-reply_number (Refused r) = number r
+reply_number (Ok n) = 0
+reply_number (Err r) = number r
 
 abbrev pub reply_value : Reply → ℕ
-reply_value (Done n) = n
-reply_value (Refused r) = place r
+reply_value (Ok n) = n
+reply_value (Err r) = place r

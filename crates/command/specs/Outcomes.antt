@@ -1,22 +1,20 @@
 -- What a command brings: the visits retracted and added, or a refusal.
-use Rattle.std.specs.Prelude.{◌+◌, List, length, vec_items}
+use Rattle.std.specs.Prelude.{◌+◌, List, length, Ok, Err, vec_items, Result}
 use Rattle.visit.specs.declared.Visit.{Visit}
-use Rattle.command.specs.declared.Answer.{Answer}
-use Rattle.command.specs.declared.Answer.TheVariants.{Changed, Refused as AnswerRefused}
+use Rattle.command.specs.declared.Changes.{Changes}
 use Rattle.command.specs.declared.Refusal.{Refusal}
-use Rattle.command.specs.declared.Reply.{Reply}
-use Rattle.command.specs.declared.Reply.TheVariants.{Done, Refused}
+use Rattle.command.specs.Numbers.{Reply}
 
 pub data Outcome : Type 0 where
   changed : List Visit → List Visit → Outcome  -- retracted, added
   refused : Refusal → Outcome
 
 -- An owned answer as an outcome.
-abbrev pub outcome_of : Answer → Outcome
-outcome_of (Changed d) = changed (vec_items d.retracted) (vec_items d.added)
-outcome_of (AnswerRefused r) = refused r
+abbrev pub outcome_of : Result Changes Refusal → Outcome
+outcome_of (Ok d) = changed (vec_items d.retracted) (vec_items d.added)
+outcome_of (Err r) = refused r
 
 -- The reply to a command tells how many visits changed.
 abbrev pub reply_of : Outcome → Reply
-reply_of (changed gone new) = Done (length gone + length new)
-reply_of (refused r) = Refused r
+reply_of (changed gone new) = Ok (length gone + length new)
+reply_of (refused r) = Err r

@@ -1,26 +1,28 @@
 // Commands, and what is answered to them: changes of the closed visits, or a refusal with its number and place.
 #![tactic(auto)]
 
-ghost use Rattle.command.specs.Bounds.{command_fault, terms_fault};
+ghost use Rattle.command.specs.Bounds.{below, command_fault, terms_fault, unless};
 ghost use Rattle.command.specs.Numbers.{number as Number, place as Place, reply_number, reply_value};
-ghost use Rattle.command.specs.Outcomes.{outcome_of, reply_of};
 ghost use Rattle.std.specs.Prelude.{◌≡◌};
 
-use visit::{Terms, Visit};
+pub mod cells;
+mod text;
+
+use visit::{Reading, Terms, Visit};
 
 // Cards, serials and amounts are below this.
 pub const WORD_LIMIT: u64 = 1 << 32;
 // Times, the watermark, gap and lateness are below this.
 pub const TIME_LIMIT: u64 = 1 << 40;
 
-#[derive(Clone, Copy)]
+#[derive(Clone, Copy, PartialEq, Eq, Debug)]
 pub enum Command {
-    Reading(visit::Reading),
+    Reading(Reading),
     Watermark(u64),
 }
 
 // Why a command is not done. Each case holds its place.
-#[derive(Clone, Copy)]
+#[derive(Clone, Copy, PartialEq, Eq, Debug)]
 pub enum Refusal {
     BadStore(u64),
     BadTerms(u64),
@@ -32,70 +34,58 @@ pub enum Refusal {
     ShortOut(u64),
 }
 
-// The reply in numbers: how many visits changed, or a refusal.
-#[derive(Clone, Copy)]
-pub enum Reply {
-    Done(u64),
-    Refused(Refusal),
-}
+// How many visits changed, or why none did.
+pub type Reply = Result<u64, Refusal>;
 
 // Visits that are closed no longer, and visits that are closed now, each in order.
-#[derive(Drop)]
+#[derive(Debug, Drop)]
 pub struct Changes {
     pub retracted: Vec<Visit>,
     pub added: Vec<Visit>,
 }
 
-// The answer with the changes themselves.
-#[derive(Drop)]
-pub enum Answer {
-    Changed(Changes),
-    Refused(Refusal),
-}
+// What changed, or why nothing did.
+pub type Answer = Result<Changes, Refusal>;
 
-// The first of gap, lateness and day length that is out of its bounds.
-pub fn terms_fault(terms: Terms) -> Option<Refusal>
-    ensures { result ≡ terms_fault terms }
+// Refused for the first of gap, lateness and day length that is out of its bounds.
+pub fn check_terms(terms: Terms) -> Result<(), Refusal>
+    ensures { result ≡ unless (terms_fault terms) tt }
 {
     if terms.gap >= TIME_LIMIT {
-        return Some(Refusal::BadTerms(0));
+        return Err(Refusal::BadTerms(0));
     }
     if terms.lateness >= TIME_LIMIT {
-        return Some(Refusal::BadTerms(1));
+        return Err(Refusal::BadTerms(1));
     }
     if terms.day == 0 {
-        return Some(Refusal::BadTerms(2));
+        return Err(Refusal::BadTerms(2));
     }
-    None
+    Ok(())
+}
+
+fn check_below(number: u64, limit: u64, place: u64) -> Result<(), Refusal>
+    ensures { result ≡ below number limit place }
+{
+    if number < limit {
+        Ok(())
+    } else {
+        Err(Refusal::BadCommand(place))
+    }
 }
 
 impl Command {
-    // The first of the command's numbers that is out of its bounds.
-    pub fn fault(self) -> Option<Refusal>
-        ensures { result ≡ command_fault self }
+    // Refused for the first of the command's numbers that is out of its bounds.
+    pub fn check(self) -> Result<(), Refusal>
+        ensures { result ≡ unless (command_fault self) tt }
     {
         match self {
             Command::Reading(e) => {
-                if e.card >= WORD_LIMIT {
-                    return Some(Refusal::BadCommand(1));
-                }
-                if e.time >= TIME_LIMIT {
-                    return Some(Refusal::BadCommand(2));
-                }
-                if e.serial >= WORD_LIMIT {
-                    return Some(Refusal::BadCommand(3));
-                }
-                if e.amount >= WORD_LIMIT {
-                    Some(Refusal::BadCommand(4))
-                } else {
-                    None
-                }
+                check_below(e.card, WORD_LIMIT, 1)?;
+                check_below(e.time, TIME_LIMIT, 2)?;
+                check_below(e.serial, WORD_LIMIT, 3)?;
+                check_below(e.amount, WORD_LIMIT, 4)
             }
-            Command::Watermark(m) => if m >= TIME_LIMIT {
-                Some(Refusal::BadCommand(1))
-            } else {
-                None
-            },
+            Command::Watermark(m) => check_below(m, TIME_LIMIT, 1),
         }
     }
 }
@@ -132,24 +122,22 @@ impl Refusal {
     }
 }
 
-impl Reply {
-    // 0 for a command that was done.
-    pub fn number(self) -> u64
-        ensures { result ≡ reply_number self }
-    {
-        match self {
-            Reply::Done(_) => 0,
-            Reply::Refused(refusal) => refusal.number(),
-        }
+// 0 for a command that was done.
+pub fn reply_number(reply: Reply) -> u64
+    ensures { result ≡ reply_number reply }
+{
+    match reply {
+        Ok(_) => 0,
+        Err(refusal) => refusal.number(),
     }
+}
 
-    // How many visits changed, or the refusal's place.
-    pub fn value(self) -> u64
-        ensures { result ≡ reply_value self }
-    {
-        match self {
-            Reply::Done(n) => n,
-            Reply::Refused(refusal) => refusal.place(),
-        }
+// How many visits changed, or the refusal's place.
+pub fn reply_value(reply: Reply) -> u64
+    ensures { result ≡ reply_value reply }
+{
+    match reply {
+        Ok(changed) => changed,
+        Err(refusal) => refusal.place(),
     }
 }
