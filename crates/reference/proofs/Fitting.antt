@@ -1,14 +1,13 @@
 -- Sums over whole lists: what each visit has comes from its readings, so it fits where their sum does.
-use Rattle.std.proofs.Common.{◌≡◌, ℕ, ◌+◌, ◌-◌, ◌<◌, ◌≤◌, true, false, cond, List, [], ◌∷◌, length, get_or, drop, sum_by, refl, ap, ◌∙◌, arith}
-use Rattle.std.proofs.lemmas.List.{drop_more}
-use Rattle.std.proofs.lemmas.List.Sums.{sum_by-cons, sum_by-take-drop}
+use Rattle.std.proofs.Common.{◌≡◌, ℕ, ◌+◌, ◌≤◌, true, false, cond, List, [], ◌∷◌, ◌++◌, length, sum_by, refl, ap, ◌∙◌, arith}
+use Rattle.std.proofs.lemmas.List.Sums.{sum_by-append, sum_by-cons}
 use Rattle.visit.specs.declared.Reading.{Reading}
 use Rattle.visit.specs.declared.Terms.{Terms}
 use Rattle.visit.specs.declared.Visit.{Visit}
 use Rattle.visit.specs.Visits.{grown, joins, single}
 use Rattle.visit.specs.Readings.{reading_before}
 use Rattle.model.specs.Sessions.{insert_reading, prepend, visits}
-use Rattle.reference.specs.Sums.{amounts, counts, sums}
+use Rattle.visit.specs.Sums.{amounts, counts, sums}
 
 -- A share f of a visit that comes from its readings' shares g.
 abbrev pub Shares : (Visit → ℕ) → (Reading → ℕ) → Type 0
@@ -32,25 +31,23 @@ visits_shares f g s t (e ∷ es) =
 pub visits_sums : (t : Terms) (es : List Reading) → sums (visits t es) ≡ amounts es
 visits_sums = visits_shares (λ v. v.sum) (λ e. e.amount) ((λ e. refl), (λ e v. refl))
 
-ones : (es : List Reading) → sum_by (λ e. 1) es ≡ length es
+pub ones : (es : List Reading) → sum_by (λ e. 1) es ≡ length es
 ones [] = refl
 ones (e ∷ es) = omega (arith, ones es, sum_by-cons (λ (x : Reading). 1) e es)
 
 pub visits_counts : (t : Terms) (es : List Reading) → counts (visits t es) ≡ length es
 visits_counts t es = visits_shares (λ v. v.count) (λ e. 1) ((λ e. refl), (λ e v. refl)) t es ∙ ones es
 
--- One step back in a list.
-pub drop_back : {X : Type 0} (xs : List X) (i : ℕ) (d : X) → 0 < i → i ≤ length xs → drop (i - 1) xs ≡ get_or xs (i - 1) d ∷ drop i xs
-drop_back xs i d p h =
-    let q : (i - 1) + 1 ≡ i = omega arith in
-    let r : i - 1 < length xs = omega arith in
-    drop_more xs (i - 1) d r ∙ ap (λ n. get_or xs (i - 1) d ∷ drop n xs) q
-
--- The amounts behind a place and the one before it are among all.
-pub amounts_back : (xs : List Reading) (i : ℕ) (d : Reading) → 0 < i → i ≤ length xs → amounts (drop i xs) + (get_or xs (i - 1) d).amount ≤ amounts xs
-amounts_back xs i d p h =
-    let g : Reading → ℕ = λ e. e.amount in
-    omega (arith, ap amounts (drop_back xs i d p h), sum_by-cons g (get_or xs (i - 1) d) (drop i xs), sum_by-take-drop g xs (i - 1))
+-- What the readings behind one and that one have is among all.
+pub shares_behind : (g : Reading → ℕ) (all rest done : List Reading) (e : Reading) → all ≡ (rest ++ e ∷ []) ++ done → sum_by g done + g e ≤ sum_by g all
+shares_behind g all rest done e h =
+    omega (
+      arith,
+      ap (λ es. sum_by g es) h,
+      sum_by-append g (rest ++ e ∷ []) done,
+      sum_by-append g rest (e ∷ []),
+      sum_by-cons g e [],
+    )
 
 -- A reading put at its place adds its share.
 pub insert_shares : (g : Reading → ℕ) (t : Terms) (e : Reading) (xs : List Reading) → sum_by g (insert_reading t e xs) ≡ sum_by g xs + g e

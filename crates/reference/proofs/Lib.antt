@@ -1,3 +1,4 @@
 pub mod Backwards
+pub mod Bounds
 pub mod Entries
 pub mod Fitting

@@ -1,31 +1,21 @@
 -- The model that an owned reference stands for.
-use Rattle.std.specs.Prelude.{◌≡◌, ℕ, ◌-◌, ◌^◌, Ok, Err, vec_items, Result}
+use Rattle.std.specs.Prelude.{ℕ, ◌-◌, ◌^◌, vec_items, Result}
 use Rattle.visit.specs.declared.Terms.{Terms}
 use Rattle.command.specs.declared.Command.{Command}
 use Rattle.command.specs.declared.Refusal.{Refusal}
 use Rattle.model.specs.Reference.{Reference as Model, bounded_plan}
-use Rattle.reference.specs.declared.state.Reference.{Reference}
+use Rattle.reference.specs.declared.Reference.{Reference}
 
 abbrev pub model_of : Reference → Model
-model_of r = record { readings = vec_items r.readings; watermark = r.watermark }
+model_of r = record { readings = vec_items r.readings; watermark = r.clock.watermark }
 
 abbrev pub terms_of : Reference → Terms
-terms_of r = r.terms
+terms_of r = r.clock.terms
 
 -- As many readings as the reference takes in: sums of that many small amounts fit in 64 bits.
 abbrev pub most_readings : ℕ
 most_readings = 2 ^ 32 - 1
 
--- A next state or a refusal, as the model has it.
-abbrev pub planned : Result Reference Refusal → Result Model Refusal
-planned (Ok next) = Ok (model_of next)
-planned (Err r) = Err r
-
--- A next state has these terms.
-abbrev pub Under : Terms → Result Reference Refusal → Type 0
-Under t (Ok next) = next.terms ≡ t
-Under t (Err r) = Unit {0}
-
 -- What a command comes to in this state.
 abbrev pub plan_of : Reference → Command → Result Model Refusal
-plan_of r c = bounded_plan r.terms (model_of r) c
+plan_of r c = bounded_plan (terms_of r) (model_of r) c

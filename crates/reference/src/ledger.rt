@@ -1,7 +1,7 @@
 // The ledger of closed visits, worked out anew.
 ghost use Rattle.std.specs.Prelude.{◌≡◌, ◌+◌, ◌^◌, ◌<◌, IfOk, OnOk};
 ghost use Rattle.model.specs.Ledger.{add_line, totals as Totals};
-ghost use Rattle.reference.specs.Sums.{line_sums, line_visits, sums};
+ghost use Rattle.visit.specs.Sums.{line_sums, line_visits, sums};
 
 use crate::order::place;
 use std::alloc::{AllocError, Global};
@@ -12,15 +12,11 @@ pub fn add_to(lines: &mut Vec<Line>, line: Line, terms: Terms) -> Result<(), All
     requires sum { line_sums lines.old.items + line.sum < 2 ^ 64 }
     ensures { OnOk result (lines.new.items ≡ add_line terms line lines.old.items) }
 {
-    let at = place(lines.as_slice(), line, terms);
-    if at < lines.len() {
-        let found = lines[at];
-        if found.same_key(line, terms) {
-            lines[at] = found.plus(line);
-            return Ok(());
-        }
+    let at = place(lines, line, terms);
+    match lines.get_mut(at) {
+        Some(found) if found.same_key(line, terms) => *found = found.plus(line),
+        _ => lines.insert(at, line)?,
     }
-    lines.insert(at, line)?;
     Ok(())
 }
 
@@ -29,8 +25,8 @@ pub fn totals(heap: Global, terms: Terms, visits: &[Visit]) -> Result<Vec<Line>,
     ensures { IfOk result (λ ls. ls.items ≡ Totals terms visits.now) }
 {
     let mut lines = Vec::new(heap);
-    for v in visits {
-        add_to(&mut lines, v.line(terms), terms)?;
+    for visit in visits {
+        add_to(&mut lines, visit.line(terms), terms)?;
     }
     Ok(lines)
 }

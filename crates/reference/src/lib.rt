@@ -4,159 +4,130 @@
 mod ledger;
 mod order;
 mod readings;
-mod state;
 mod visits;
 
 ghost use Rattle.command.specs.Outcomes.{outcome_of};
-ghost use Rattle.command.specs.declared.Command.TheVariants.{Reading as AReading, Watermark};
-ghost use Rattle.model.specs.Sessions.{changes as Changed};
-ghost use Rattle.model.specs.Reference.{closed_of, empty, ledger_of, outcome_by, plan as Plan, state_by};
-ghost use Rattle.reference.specs.State.{Under, model_of, most_readings, plan_of, planned};
-ghost use Rattle.std.specs.Prelude.{◌≡◌, ◌^◌, ◌<◌, IfOk, vec_len, OnErr, OnOk, nat_lt};
+ghost use Rattle.model.specs.Reference.{closed_of, empty, ledger_of, outcome_by, state_by};
+ghost use Rattle.std.specs.Prelude.{◌≡◌, ◌*◌, ◌^◌, ◌<◌, ◌≤◌, ◌↔◌, IfOk, IsOk, IsTrue, Ok, vec_len, OnErr, OnOk, sum_by};
+ghost use Rattle.std.specs.Result.{result_and};
 
-use command::{Answer, Changes, Command, Refusal};
+use command::{Answer, Command, Refusal, check_terms};
 use readings::{contains, inserted};
-pub use state::Reference;
 use std::alloc::{AllocError, Global};
-use visit::{Line, Reading, Terms, Visit};
-use visits::{Closed, difference, passing};
+use visit::{Clock, Line, Reading, Terms, Visit};
+use visits::changes;
 
 // Beyond this many readings a sum might not fit in 64 bits.
 const MOST_READINGS: usize = (1 << 32) - 1;
 
-// What was closed before and is not now, and the reverse.
-fn changes(
-    heap: Global,
-    terms: Terms,
-    before: &[Visit],
-    after: &[Visit],
-) -> Result<Changes, AllocError>
-    ensures { IfOk result (λ d. outcome_of (Answer.Changed d) ≡ Changed terms before.now after.now) }
-{
-    let retracted = difference(heap, terms, before, after)?;
-    let added = difference(heap, terms, after, before)?;
-    Ok(Changes { retracted, added })
+// Every reading taken in, in order. They are few and have small amounts, so that every sum fits in 64 bits.
+#[derive(Debug, Drop)]
+pub struct Reference {
+    clock: Clock,
+    readings: Vec<Reading>,
+    ghost few: { vec_len readings < 2 ^ 32 },
+    ghost small: { sum_by (λ e. e.amount) readings.items ≤ vec_len readings * (2 ^ 32) },
 }
 
 impl Reference {
+    ghost use Rattle.reference.specs.State.{model_of, most_readings, plan_of, terms_of};
+
     pub fn new(heap: Global, terms: Terms) -> Reference
         ensures state { model_of result ≡ empty }
-        ensures terms { result.terms ≡ terms }
+        ensures terms { terms_of result ≡ terms }
     {
         Reference {
-            terms,
+            clock: Clock {
+                terms,
+                watermark: 0,
+            },
             readings: Vec::new(heap),
-            watermark: 0,
         }
     }
 
     // A refusal or want of memory leaves the state as it was.
     pub fn apply(&mut self, heap: Global, command: Command) -> Result<Answer, AllocError>
-        ensures answer { IfOk result (λ a. outcome_of a ≡ outcome_by self.old.terms (model_of self.old) (plan_of self.old command)) }
+        ensures answer { IfOk result (λ a. outcome_of a ≡ outcome_by (terms_of self.old) (model_of self.old) (plan_of self.old command)) }
         ensures state { OnOk result (model_of self.new ≡ state_by (model_of self.old) (plan_of self.old command)) }
         ensures same { OnErr result (model_of self.new ≡ model_of self.old) }
-        ensures terms { self.new.terms ≡ self.old.terms }
+        ensures terms { terms_of self.new ≡ terms_of self.old }
     {
-        match self.plan(heap, command)? {
-            Err(refusal) => Ok(Answer::Refused(refusal)),
-            Ok(next) => {
-                let before = self.closed(heap)?;
-                let after = next.closed(heap)?;
-                let changes = changes(heap, self.terms, before.as_slice(), after.as_slice())?;
-                *self = next;
-                Ok(Answer::Changed(changes))
-            }
+        if let Err(refusal) = self.check(command) {
+            return Ok(Err(refusal));
         }
+        let next = self.next(heap, command)?;
+        let before = self.closed(heap)?;
+        let after = next.closed(heap)?;
+        let changes = changes(heap, self.clock.terms, &before, &after)?;
+        *self = next;
+        Ok(Ok(changes))
     }
 
     // The closed visits.
     pub fn closed(&self, heap: Global) -> Result<Vec<Visit>, AllocError>
-        ensures { IfOk result (λ v. v.items ≡ closed_of self.now.terms (model_of self.now)) }
+        ensures { IfOk result (λ v. v.items ≡ closed_of (terms_of self.now) (model_of self.now)) }
     {
-        let all = visits::visits(heap, self.terms, self.readings.as_slice())?;
-        passing(
-            heap,
-            all.as_slice(),
-            &Closed {
-                terms: self.terms,
-                watermark: self.watermark,
-            },
-        )
+        let clock = self.clock;
+        let mut visits = visits::visits(heap, clock.terms, &self.readings)?;
+        visits.retain(|visit| visit.closed(clock));
+        Ok(visits)
     }
 
     pub fn ledger(&self, heap: Global) -> Result<Vec<Line>, AllocError>
-        ensures { IfOk result (λ v. v.items ≡ ledger_of self.now.terms (model_of self.now)) }
+        ensures { IfOk result (λ v. v.items ≡ ledger_of (terms_of self.now) (model_of self.now)) }
     {
         let closed = self.closed(heap)?;
-        ledger::totals(heap, self.terms, closed.as_slice())
+        ledger::totals(heap, self.clock.terms, &closed)
     }
 
     // Whether one reading more may be taken in.
     fn has_room(&self) -> bool
-        ensures { result ≡ nat_lt (vec_len self.now.readings) most_readings }
+        ensures { IsTrue result ↔ (vec_len self.now.readings < most_readings) }
     {
         self.readings.len() < MOST_READINGS
     }
 
-    // The next state, or a refusal.
-    fn plan(&self, heap: Global, command: Command) -> Result<Result<Reference, Refusal>, AllocError>
-        ensures terms { IfOk result (λ p. Under self.now.terms p) }
-        ensures plan { IfOk result (λ p. planned p ≡ plan_of self.now command) }
+    // Whether the command may be done, or why not.
+    fn check(&self, command: Command) -> Result<(), Refusal>
+        ensures { result ≡ result_and (plan_of self.now command) (Ok tt) }
     {
-        if let Some(fault) = command::terms_fault(self.terms) {
-            return Ok(Err(fault));
-        }
-        if let Some(fault) = command.fault() {
-            return Ok(Err(fault));
-        }
+        check_terms(self.clock.terms)?;
+        command.check()?;
         match command {
-            Command::Reading(e) => self.plan_reading(heap, e),
-            Command::Watermark(m) => self.plan_watermark(heap, m),
+            Command::Reading(e) if e.too_late(self.clock) => Err(Refusal::TooLate(e.time)),
+            Command::Reading(e) if contains(&self.readings, e, self.clock.terms) => {
+                Err(Refusal::Duplicate(e.time))
+            }
+            Command::Watermark(m) if m < self.clock.watermark => Err(Refusal::Backwards(m)),
+            _ => Ok(()),
         }
     }
 
-    fn plan_reading(
-        &self,
-        heap: Global,
-        e: Reading,
-    ) -> Result<Result<Reference, Refusal>, AllocError>
-        requires { e.amount < 2 ^ 32 }
-        ensures terms { IfOk result (λ p. Under self.now.terms p) }
-        ensures plan { IfOk result (λ p. planned p ≡ Plan self.now.terms (model_of self.now) (AReading e)) }
+    // The state after a command that may be done. One reading too many fails as for want of memory.
+    fn next(&self, heap: Global, command: Command) -> Result<Reference, AllocError>
+        requires { IsOk (plan_of self.now command) }
+        ensures terms { IfOk result (λ next. terms_of next ≡ terms_of self.now) }
+        ensures state { IfOk result (λ next. plan_of self.now command ≡ Ok (model_of next)) }
     {
-        if e.too_late(self.terms, self.watermark) {
-            return Ok(Err(Refusal::TooLate(e.time)));
+        match command {
+            Command::Reading(e) => {
+                if !self.has_room() {
+                    return Err(AllocError);
+                }
+                let readings = inserted(heap, &self.readings, e, self.clock.terms)?;
+                Ok(Reference {
+                    clock: self.clock,
+                    readings,
+                })
+            }
+            Command::Watermark(watermark) => {
+                let readings = self.readings.to_vec(heap)?;
+                let clock = Clock {
+                    watermark,
+                    ..self.clock
+                };
+                Ok(Reference { clock, readings })
+            }
         }
-        if contains(self.readings.as_slice(), e, self.terms) {
-            return Ok(Err(Refusal::Duplicate(e.time)));
-        }
-        if !self.has_room() {
-            return Err(AllocError);
-        }
-        let readings = inserted(heap, self.readings.as_slice(), e, self.terms)?;
-        Ok(Ok(Reference {
-            terms: self.terms,
-            readings,
-            watermark: self.watermark,
-        }))
-    }
-
-    fn plan_watermark(
-        &self,
-        heap: Global,
-        watermark: u64,
-    ) -> Result<Result<Reference, Refusal>, AllocError>
-        ensures terms { IfOk result (λ p. Under self.now.terms p) }
-        ensures plan { IfOk result (λ p. planned p ≡ Plan self.now.terms (model_of self.now) (Watermark watermark)) }
-    {
-        if watermark < self.watermark {
-            return Ok(Err(Refusal::Backwards(watermark)));
-        }
-        let readings = Vec::from_slice(heap, self.readings.as_slice())?;
-        Ok(Ok(Reference {
-            terms: self.terms,
-            readings,
-            watermark,
-        }))
     }
 }

@@ -6,28 +6,23 @@ use crate::order::place;
 use std::alloc::{AllocError, Global};
 use visit::{Reading, Terms};
 
-pub fn contains(readings: &[Reading], e: Reading, terms: Terms) -> bool
-    ensures { result ≡ contains terms e readings.now }
+pub fn contains(readings: &[Reading], reading: Reading, terms: Terms) -> bool
+    ensures { result ≡ contains terms reading readings.now }
 {
-    for x in readings {
-        if e.same(*x, terms) {
-            return true;
-        }
-    }
-    false
+    readings.iter().any(|other| reading.same(*other, terms))
 }
 
-// A copy of the readings with e at its place.
+// A copy of the readings with one more at its place.
 pub fn inserted(
     heap: Global,
     readings: &[Reading],
-    e: Reading,
+    reading: Reading,
     terms: Terms,
 ) -> Result<Vec<Reading>, AllocError>
-    ensures { IfOk result (λ v. v.items ≡ insert_reading terms e readings.now) }
+    ensures { IfOk result (λ v. v.items ≡ insert_reading terms reading readings.now) }
 {
-    let mut all = Vec::from_slice(heap, readings)?;
-    let at = place(readings, e, terms);
-    all.insert(at, e)?;
+    let mut all = readings.to_vec(heap)?;
+    let at = place(readings, reading, terms);
+    all.insert(at, reading)?;
     Ok(all)
 }

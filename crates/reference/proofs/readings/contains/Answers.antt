@@ -1,16 +1,13 @@
-use Rattle.std.proofs.Common.{sym, ◌∙◌}
+use Rattle.std.proofs.Common.{rules, tests, sym, ◌∙◌}
+use Rattle.std.proofs.lemmas.Iterator.{YieldsList-from_slice}
+use Rattle.std.proofs.lemmas.Iterator.Search.{any_from_yields_List}
 use Rattle.visit.specs.Readings.{same_reading}
-use Rattle.model.proofs.Walks.{some_past, some_here, some_end}
+use Rattle.model.proofs.Places.{some_is_any}
 use Rattle.reference.proofs.readings.contains.Goals as goal
-
-pub returns-then-same : goal.returns-then-same
-returns-then-same c =
-    sym (some_here (same_reading c.args.terms c.args.e) c.args.readings.now c.loop-x.x-index _ c.loop-x-test.true (sym c.if-same.ensures)) ∙ c.loop-x.invariant
-
-pub loop-x-preserved : goal.loop-x-preserved
-loop-x-preserved c =
-    some_past (same_reading c.args.terms c.args.e) c.args.readings.now c.loop-x.x-index _ c.loop-x-test.true (sym c.if-same.ensures) ∙ c.loop-x.invariant
 
 pub returns : goal.returns
 returns c =
-    sym (some_end (same_reading c.args.terms c.args.e) c.args.readings.now c.loop-x.x-index c.loop-x-test.false) ∙ c.loop-x.invariant
+    let readings = c.args.readings.now in
+    let same = same_reading c.args.terms c.args.reading in
+    any_from_yields_List same _ _ _ c.any.ensures.ran (YieldsList-from_slice readings cc) (λ x b q k. search (rules, tests))
+    ∙ sym (some_is_any same readings)

@@ -1,33 +1,35 @@
-use Rattle.std.proofs.Common.{length, drop, sym, refl, ap, ◌∙◌, arith}
-use Rattle.std.proofs.lemmas.List.{drop_all, length-drop}
-use Rattle.visit.specs.declared.Reading.{Reading}
-use Rattle.model.specs.Sessions.{prepend, visits}
-use Rattle.reference.specs.Sums.{counts, sums}
-use Rattle.reference.proofs.Fitting.{visits_sums, visits_counts, drop_back, amounts_back}
+use Rattle.std.proofs.Common.{◌++◌, ◌∙◌, ap, arith}
+use Rattle.std.specs.Iterator.Adapters.{rev_source}
+use Rattle.std.specs.Slice.Iter.{iter_rest}
+use Rattle.visit.specs.Sums.{counts, sums}
+use Rattle.reference.proofs.Fitting.{ones, shares_behind, visits_counts, visits_sums}
 use Rattle.reference.proofs.visits.visits.Goals as goal
 
-none : Reading
-none = record { card = 0; time = 0; serial = 0; amount = 0 }
+pub prepend-requires-clause-count : goal.prepend-requires-clause-count
+prepend-requires-clause-count c =
+    let done = c.loop-reading.invariant.0 in
+    let e = c.in-Some.reading.now in
+    let rest = iter_rest (rev_source c.next.new.self) in
+    let split = c.loop-reading.invariant.1 ∙ ap (λ es. es ++ done) c.in-Some.ensures.steps in
+    omega (
+      arith,
+      ap counts c.loop-reading.invariant.2,
+      visits_counts c.args.terms done,
+      ones done,
+      ones c.args.readings.now,
+      shares_behind (λ _. 1) c.args.readings.now rest done e split,
+      c.iter.ensures.bound,
+    )
 
-pub loop-i-init : goal.loop-i-init
-loop-i-init c = rw (c.new-backwards.ensures.items, drop_all (length c.args.readings.now) c.args.readings.now (omega arith)) refl
-
-pub prepend-requires : goal.prepend-requires
-unfolding none
-prepend-requires c =
-    let rest = drop c.loop-i.i c.args.readings.now in
-    record {
-      count = omega (arith, ap counts c.loop-i.invariant, visits_counts c.args.terms rest, length-drop c.loop-i.i c.args.readings.now);
-      sum = omega (
-        arith,
-        ap sums c.loop-i.invariant,
-        visits_sums c.args.terms rest,
-        amounts_back c.args.readings.now c.loop-i.i none c.loop-i-test.true c.loop-i.auto.i,
-      );
-    }
-
-pub loop-i-preserved : goal.loop-i-preserved
-unfolding none
-loop-i-preserved c =
-    c.in_ok-prepend.ensures ∙ ap (prepend c.args.terms _) c.loop-i.invariant
-    ∙ sym (ap (visits c.args.terms) (drop_back c.args.readings.now c.loop-i.i none c.loop-i-test.true c.loop-i.auto.i))
+pub prepend-requires-clause-sum : goal.prepend-requires-clause-sum
+prepend-requires-clause-sum c =
+    let done = c.loop-reading.invariant.0 in
+    let e = c.in-Some.reading.now in
+    let rest = iter_rest (rev_source c.next.new.self) in
+    let split = c.loop-reading.invariant.1 ∙ ap (λ es. es ++ done) c.in-Some.ensures.steps in
+    omega (
+      arith,
+      ap sums c.loop-reading.invariant.2,
+      visits_sums c.args.terms done,
+      shares_behind (λ r. r.amount) c.args.readings.now rest done e split,
+    )
