@@ -8,10 +8,11 @@ use Rattle.visit.specs.declared.Terms.{Terms}
 use Rattle.command.specs.declared.Command.{Command}
 use Rattle.command.specs.declared.Command.TheVariants.{Reading, Watermark}
 use Rattle.feed.specs.Bytes.{bytes_of, low_first}
-use Rattle.feed.specs.Files.{RoundTrip, command_bytes, commands, decoded, storable, terms_bytes, terms_in, unread}
+use Rattle.feed.specs.Files.{RoundTrip, body, command_bytes, commands, decoded, storable, terms_bytes, terms_in, unread}
 use Rattle.feed.proofs.Decoding.{commands_next, unread_next}
 
 pub low_first_bytes : (n x : ℕ) → x < 256 ^ n → low_first (bytes_of n x) ≡ x
+unfolding bytes_of
 low_first_bytes zero x h = omega arith
 low_first_bytes (suc n) x h =
     let p = pow-add 256 1 n in
@@ -19,7 +20,7 @@ low_first_bytes (suc n) x h =
     omega (arith, low_first_bytes n (x / 256) q)
 
 pub terms_back : (t : Terms) (rest : List ℕ) → t.gap < 2 ^ 64 → t.lateness < 2 ^ 64 → t.day < 2 ^ 64 → terms_in (terms_bytes t ++ rest) ≡ Some t
-unfolding terms_in
+unfolding terms_in bytes_of
 terms_back t rest a b d =
     let p = low_first_bytes 8 t.gap a in
     let q = low_first_bytes 8 t.lateness b in
@@ -27,8 +28,13 @@ terms_back t rest a b d =
     let z : ltb (length (terms_bytes t ++ rest)) 24 ≡ false = grind (arith, nat_tests) in
     simp (z, p, q, r)
 
+-- What stands behind the terms.
+pub body_back : (t : Terms) (rest : List ℕ) → body (terms_bytes t ++ rest) ≡ rest
+unfolding bytes_of
+body_back t rest = refl
+
 pub command_back : (c : Command) (rest : List ℕ) → storable c ≡ true → decoded (command_bytes c ++ rest) ≡ Some (c, length (command_bytes c))
-unfolding decoded storable
+unfolding decoded storable bytes_of
 command_back (Reading e) rest h =
     let a : e.card < 2 ^ 32 = grind (arith, nat_tests) in
     let b : e.serial < 2 ^ 32 = grind (arith, nat_tests) in

@@ -16,6 +16,7 @@ Bytes bs = AllByRecursion (λ b. b < 256) bs
 
 -- The bytes of the number that bytes make are those bytes, and it fits them.
 bytes_low_first : (bs : List ℕ) → Bytes bs → bytes_of (length bs) (low_first bs) ≡ bs
+unfolding bytes_of
 bytes_low_first [] h = refl
 bytes_low_first (b ∷ bs) h =
     let p : (b + 256 * low_first bs) % 256 ≡ b = omega (arith, h.0) in

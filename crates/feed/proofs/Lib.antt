@@ -1,6 +1,4 @@
-mod Places
 mod Rows
 pub mod Encoding
 pub mod Exact
 pub mod Decoding
-pub mod Printing

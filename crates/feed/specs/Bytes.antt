@@ -1,5 +1,6 @@
 -- Numbers in bytes, low byte first.
-use Rattle.std.specs.Prelude.{ℕ, zero, suc, ◌+◌, ◌*◌, ◌/◌, ◌%◌, List, [], ◌∷◌, take, drop}
+use Rattle.std.specs.Prelude.{◌≡◌, ℕ, zero, suc, ◌+◌, ◌*◌, ◌/◌, ◌%◌, ◌<◌, List, [], ◌∷◌, length, take, drop, Option, MatchOption}
+use Rattle.std.specs.Borrow.{Bor}
 
 -- The number that bytes make.
 abbrev pub low_first : List ℕ → ℕ
@@ -11,6 +12,11 @@ abbrev pub number_at : ℕ → ℕ → List ℕ → ℕ
 number_at n i bs = low_first (take n (drop i bs))
 
 -- A number in n bytes.
-abbrev pub bytes_of : ℕ → ℕ → List ℕ
+unfoldable pub bytes_of : ℕ → ℕ → List ℕ
 bytes_of zero x = []
 bytes_of (suc n) x = x % 256 ∷ bytes_of n (x / 256)
+
+-- What the first n bytes say, and the bytes behind them; none where there are fewer.
+abbrev pub TakesFirst : {X : Type 0} → ℕ → X → List ℕ → Option (X × Bor (List ℕ)) → Type 0
+TakesFirst n said bs r =
+    MatchOption r (length bs < n) (λ p. (p.0 ≡ said) × (p.1.now ≡ drop n bs) × (length p.1.now + n ≡ length bs))

@@ -1,11 +1,13 @@
--- The text of answers and of the ledger: decimal numbers, single spaces, one newline behind each line.
-use Rattle.std.specs.Prelude.{ℕ, List, [], ◌∷◌, ◌++◌, codes, decimal}
+-- The text of answers and of the ledger: one newline behind each line.
+use Rattle.std.specs.Prelude.{ℕ, List, [], ◌∷◌, ◌++◌, codes}
 use Rattle.std.specs.List.{flat_map}
+use Rattle.visit.specs.Text.{line_text, visit_text}
 use Rattle.visit.specs.declared.Line.{Line}
 use Rattle.visit.specs.declared.Visit.{Visit}
-use Rattle.command.specs.declared.Refusal.{Refusal}
-use Rattle.command.specs.Numbers.{number, place}
 use Rattle.command.specs.Outcomes.{Outcome, changed, refused}
+use Rattle.command.specs.Text.{refusal_text}
+use Rattle.feed.specs.declared.files.EncodeError.{EncodeError}
+use Rattle.feed.specs.declared.files.EncodeError.TheVariants.{TooLarge, OutOfMemory}
 use Rattle.feed.specs.declared.text.Kind.{Kind}
 use Rattle.feed.specs.declared.text.Kind.TheVariants.{Retracted, Added}
 
@@ -15,22 +17,7 @@ sign Retracted = codes "-"
 sign Added = codes "+"
 
 abbrev pub change_text : Kind → Visit → List ℕ
-change_text k v =
-    sign k
-    ++ (codes " "
-    ++ (decimal v.card
-    ++ (codes " "
-    ++ (decimal v.from
-    ++ (codes " " ++ (decimal v.to ++ (codes " " ++ (decimal v.count ++ (codes " " ++ decimal v.sum)))))))))
-
-abbrev pub refusal_text : Refusal → List ℕ
-refusal_text r = codes "refused " ++ (decimal (number r) ++ (codes " at " ++ decimal (place r)))
-
-abbrev pub line_text : Line → List ℕ
-line_text l =
-    codes "card "
-    ++ (decimal l.card
-    ++ (codes " day " ++ (decimal l.day ++ (codes " visits " ++ (decimal l.visits ++ (codes " sum " ++ decimal l.sum))))))
+change_text k v = sign k ++ (codes " " ++ visit_text v)
 
 -- A text as a line of its own.
 abbrev pub ended : List ℕ → List ℕ
@@ -47,3 +34,8 @@ outcome_text (refused r) = ended (refusal_text r)
 
 unfoldable pub ledger_text : List Line → List ℕ
 ledger_text ls = flat_map (λ l. ended (line_text l)) ls
+
+-- Why a command is not written.
+abbrev pub encode_error_text : EncodeError → List ℕ
+encode_error_text TooLarge = codes "a number too large for its bytes"
+encode_error_text OutOfMemory = codes "out of memory"

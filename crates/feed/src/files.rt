@@ -1,89 +1,144 @@
 // Command files: gap, lateness and day length, then the commands. All numbers stand low byte first.
-ghost use Rattle.std.specs.Prelude.{◌≡◌, ◌+◌, ◌^◌, ◌<◌, ◌≤◌, true, ◌++◌, length, IfSome, is_ok, IfErr, if◌then◌else◌, MatchResult, OnSome};
-ghost use Rattle.feed.specs.Bytes.{number_at};
+ghost use Rattle.std.specs.Prelude.{Some, ◌≡◌, ◌+◌, ◌<◌, ◌≤◌, true, ◌++◌, length, drop, IfSome, is_ok, if◌then◌else◌, MatchOption, MatchResult, OnSome};
+ghost use Rattle.std.specs.Iterator.{item_count};
+ghost use Rattle.std.specs.List.{flat_map};
+ghost use Rattle.feed.specs.Bytes.{TakesFirst, number_at};
+ghost use Rattle.feed.specs.Commands.{IsFront, StepsOn, bytes_left, commands_left};
 ghost use Rattle.feed.specs.Files.{Lossless, RoundTrip, command_bytes, decoded, decoded_at, storable, terms_bytes, terms_in, terms_size};
+ghost use Rattle.feed.specs.Text.{encode_error_text};
+ghost use Rattle.feed.specs.declared.files.EncodeError.TheVariants.{OutOfMemory, TooLarge};
 
-use command::{Command, WORD_LIMIT};
+use command::Command;
 use std::alloc::AllocError;
+use std::error::Error;
+use std::fmt;
+use std::num::TryFromIntError;
 use visit::{Reading, Terms};
 
-// How many bytes the terms take, and a command of each kind.
+// How many bytes the terms take.
 pub const TERMS_SIZE: usize = 24;
 
-const READING_SIZE: usize = 21;
+// The first byte of a command says its kind.
+const READING: u8 = 0;
 
-const WATERMARK_SIZE: usize = 9;
+const WATERMARK: u8 = 1;
 
-fn word_at(bytes: &[u8], at: usize) -> u64
-    requires { at + 4 ≤ length bytes.now }
-    ensures { result ≡ number_at 4 at bytes.now }
+// The number in the first four bytes, and the bytes behind them.
+fn word(bytes: &[u8]) -> Option<(u64, &[u8])>
+    ensures { TakesFirst 4 (number_at 4 0 bytes.now) bytes.now result }
 {
-    u64::from(u32::from_le_bytes([bytes[at], bytes[at + 1], bytes[at + 2], bytes[at + 3]]))
+    let (number, rest) = bytes.split_first_chunk()?;
+    Some((u32::from_le_bytes(*number).into(), rest))
 }
 
-fn long_at(bytes: &[u8], at: usize) -> u64
-    requires { at + 8 ≤ length bytes.now }
-    ensures { result ≡ number_at 8 at bytes.now }
+// The number in the first eight bytes, and the bytes behind them.
+fn long(bytes: &[u8]) -> Option<(u64, &[u8])>
+    ensures { TakesFirst 8 (number_at 8 0 bytes.now) bytes.now result }
 {
-    u64::from_le_bytes([
-        bytes[at],
-        bytes[at + 1],
-        bytes[at + 2],
-        bytes[at + 3],
-        bytes[at + 4],
-        bytes[at + 5],
-        bytes[at + 6],
-        bytes[at + 7],
-    ])
+    let (number, rest) = bytes.split_first_chunk()?;
+    Some((u64::from_le_bytes(*number), rest))
 }
 
 // The terms at the front of a file, unless it is too short for them.
+#[tactic(auto, unfolding(crate::specs::Files::terms_in))]
 pub fn read_terms(bytes: &[u8]) -> Option<Terms>
     ensures value { result ≡ terms_in bytes.now }
     ensures bound { OnSome result (terms_size ≤ length bytes.now) }
 {
-    if bytes.len() < TERMS_SIZE {
-        return None;
-    }
-    Some(Terms {
-        gap: long_at(bytes, 0),
-        lateness: long_at(bytes, 8),
-        day: long_at(bytes, 16),
-    })
+    let (gap, bytes) = long(bytes)?;
+    let (lateness, bytes) = long(bytes)?;
+    let (day, _) = long(bytes)?;
+    Some(Terms { gap, lateness, day })
 }
 
-fn front(bytes: &[u8]) -> Option<(Command, usize)>
-    ensures { result ≡ decoded bytes.now }
+// A reading behind its kind, and the bytes behind it.
+fn reading(bytes: &[u8]) -> Option<(Reading, &[u8])>
+    ensures { TakesFirst 20
+        (record {
+          card = number_at 4 0 bytes.now;
+          serial = number_at 4 4 bytes.now;
+          time = number_at 8 8 bytes.now;
+          amount = number_at 4 16 bytes.now;
+        })
+        bytes.now result }
 {
-    let [kind, ..] = bytes else {
-        return None;
+    let (card, bytes) = word(bytes)?;
+    let (serial, bytes) = word(bytes)?;
+    let (time, bytes) = long(bytes)?;
+    let (amount, rest) = word(bytes)?;
+    let reading = Reading {
+        card,
+        time,
+        serial,
+        amount,
     };
-    if *kind == 0 && bytes.len() >= READING_SIZE {
-        let reading = Reading {
-            card: word_at(bytes, 1),
-            time: long_at(bytes, 9),
-            serial: word_at(bytes, 5),
-            amount: word_at(bytes, 17),
-        };
-        return Some((Command::Reading(reading), READING_SIZE));
-    }
-    if *kind == 1 && bytes.len() >= WATERMARK_SIZE {
-        return Some((Command::Watermark(long_at(bytes, 1)), WATERMARK_SIZE));
-    }
-    None
+    Some((reading, rest))
 }
 
-// The command that begins at a byte, and where the next begins. None at the end of the bytes, at a
-// command that ends early, and at an unknown kind.
+// The command at the front, and the bytes behind it. None at the end of the bytes, at a command that
+// ends early, and at an unknown kind.
+#[tactic(auto, unfolding(crate::specs::Files::decoded))]
+fn front(bytes: &[u8]) -> Option<(Command, &[u8])>
+    ensures { MatchOption result (decoded bytes.now ≡ None) (λ p. IsFront bytes.now p.0 p.1.now) }
+{
+    let (kind, bytes) = bytes.split_first()?;
+    match *kind {
+        READING => {
+            let (reading, rest) = reading(bytes)?;
+            Some((Command::Reading(reading), rest))
+        }
+        WATERMARK => {
+            let (time, rest) = long(bytes)?;
+            Some((Command::Watermark(time), rest))
+        }
+        _ => None,
+    }
+}
+
+// The command that begins at a byte, and where the next begins. None where `front` finds none.
+#[tactic(auto, unfolding(crate::specs::Files::decoded))]
 pub fn command_at(bytes: &[u8], at: usize) -> Option<(Command, usize)>
     ensures value { result ≡ decoded_at at bytes.now }
     ensures bound { IfSome result (λ d. (at < d.1) × (d.1 ≤ length bytes.now)) }
 {
-    if at >= bytes.len() {
-        return None;
+    let (command, rest) = front(bytes.get(at..)?)?;
+    Some((command, bytes.len() - rest.len()))
+}
+
+// The commands behind the terms, one after the other, up to where decoding stops.
+#[derive(Clone, Debug, Drop)]
+pub struct Commands<'a> {
+    rest: &'a [u8],
+}
+
+impl<'a> Commands<'a> {
+    pub fn new(bytes: &'a [u8]) -> Commands<'a>
+        ensures { bytes_left result ≡ bytes.now }
+    {
+        Commands { rest: bytes }
     }
-    let (command, size) = front(&bytes[at..])?;
-    Some((command, at + size))
+
+    // How many bytes are left.
+    pub fn unread(&self) -> usize
+        ensures { result ≡ length (bytes_left self.now) }
+    {
+        self.rest.len()
+    }
+}
+
+impl<'a> Iterator for Commands<'a> {
+    type Item = Command;
+
+    ghost next_gives = { StepsOn };
+
+    ghost remaining = { item_count commands_left };
+
+    #[tactic(auto, using(crate::proofs::Decoding::commands_next, crate::proofs::Decoding::unread_next, crate::proofs::Decoding::commands_end, crate::proofs::Decoding::unread_end))]
+    fn next(&mut self) -> Option<Command> {
+        let (command, rest) = front(self.rest)?;
+        self.rest = rest;
+        Some(command)
+    }
 }
 
 // Why a command is not written: a card, serial or amount that four bytes do not hold, or want of memory.
@@ -93,80 +148,108 @@ pub enum EncodeError {
     OutOfMemory,
 }
 
-fn terms_row(terms: Terms) -> [u8; TERMS_SIZE]
-    ensures { result ≡ terms_bytes terms }
-{
-    let mut row = [0u8; TERMS_SIZE];
-    row[0..8].copy_from_slice(&terms.gap.to_le_bytes());
-    row[8..16].copy_from_slice(&terms.lateness.to_le_bytes());
-    row[16..24].copy_from_slice(&terms.day.to_le_bytes());
-    row
+impl fmt::Display for EncodeError {
+    ghost output = { λ e. Some (encode_error_text e) };
+
+    fn fmt<W: fmt::Write>(&self, f: &mut fmt::Formatter<W>) -> fmt::Result {
+        f.write_str(match self {
+            Self::TooLarge => "a number too large for its bytes",
+            Self::OutOfMemory => "out of memory",
+        })
+    }
 }
 
-// One extension, so that an error leaves `out` as it was.
-pub fn put_terms(out: &mut Vec<u8>, terms: Terms) -> Result<(), AllocError>
-    ensures { out.new.items ≡ (if is_ok result then out.old.items ++ terms_bytes terms else out.old.items) }
-{
-    out.extend_from_slice(&terms_row(terms))
+impl Error for EncodeError {}
+
+impl From<TryFromIntError> for EncodeError {
+    ghost from_gives = { λ _ e. e ≡ TooLarge };
+
+    fn from(_error: TryFromIntError) -> EncodeError {
+        EncodeError::TooLarge
+    }
 }
 
-fn reading_row(reading: Reading) -> [u8; READING_SIZE]
-    requires card { reading.card < 2 ^ 32 }
-    requires serial { reading.serial < 2 ^ 32 }
-    requires amount { reading.amount < 2 ^ 32 }
-    ensures value { result ≡ command_bytes (Command.Reading reading) }
-    ensures stored { storable (Command.Reading reading) ≡ true }
-{
-    let mut row = [0u8; READING_SIZE];
-    row[1..5].copy_from_slice(&(reading.card as u32).to_le_bytes());
-    row[5..9].copy_from_slice(&(reading.serial as u32).to_le_bytes());
-    row[9..17].copy_from_slice(&reading.time.to_le_bytes());
-    row[17..21].copy_from_slice(&(reading.amount as u32).to_le_bytes());
-    row
+impl From<AllocError> for EncodeError {
+    ghost from_gives = { λ _ e. e ≡ OutOfMemory };
+
+    fn from(_error: AllocError) -> EncodeError {
+        EncodeError::OutOfMemory
+    }
 }
 
-fn watermark_row(watermark: u64) -> [u8; WATERMARK_SIZE]
-    ensures value { result ≡ command_bytes (Command.Watermark watermark) }
-    ensures stored { storable (Command.Watermark watermark) ≡ true }
+// All of the parts or, where memory runs out, none of them.
+fn append(out: &mut Vec<u8>, parts: &[&[u8]]) -> Result<(), AllocError>
+    ensures { out.new.items ≡ (if is_ok result then out.old.items ++ flat_map (λ p. p.now) parts.now else out.old.items) }
 {
-    let mut row = [0u8; WATERMARK_SIZE];
-    row[0] = 1;
-    row[1..9].copy_from_slice(&watermark.to_le_bytes());
-    row
-}
-
-fn append(out: &mut Vec<u8>, row: &[u8]) -> Result<(), EncodeError>
-    ensures items { out.new.items ≡ (if is_ok result then out.old.items ++ row.now else out.old.items) }
-    ensures cases { IfErr result (λ e. e ≡ EncodeError.OutOfMemory) }
-{
-    if out.extend_from_slice(row).is_err() {
-        return Err(EncodeError::OutOfMemory);
+    let start = out.len();
+    for part in parts {
+        if let Err(error) = out.extend_from_slice(part) {
+            out.truncate(start);
+            return Err(error);
+        }
     }
     Ok(())
 }
 
 // An error leaves `out` as it was.
+#[tactic(auto, using(crate::proofs::Rows::long_bytes))]
+pub fn put_terms(out: &mut Vec<u8>, terms: Terms) -> Result<(), AllocError>
+    ensures { out.new.items ≡ (if is_ok result then out.old.items ++ terms_bytes terms else out.old.items) }
+{
+    append(
+        out,
+        &[
+            &terms.gap.to_le_bytes(),
+            &terms.lateness.to_le_bytes(),
+            &terms.day.to_le_bytes(),
+        ],
+    )
+}
+
+#[tactic(auto, using(crate::proofs::Rows::word_bytes, crate::proofs::Rows::long_bytes), unfolding(crate::specs::Files::storable))]
+fn put_reading(out: &mut Vec<u8>, reading: Reading) -> Result<(), EncodeError>
+    ensures items { out.new.items ≡ (if is_ok result then out.old.items ++ command_bytes (Command.Reading reading) else out.old.items) }
+    ensures cases { MatchResult result (λ _. storable (Command.Reading reading) ≡ true) (λ e. e ≡ (if storable (Command.Reading reading) then EncodeError.OutOfMemory else EncodeError.TooLarge)) }
+{
+    let card = u32::try_from(reading.card)?;
+    let serial = u32::try_from(reading.serial)?;
+    let amount = u32::try_from(reading.amount)?;
+    append(
+        out,
+        &[
+            &[READING],
+            &card.to_le_bytes(),
+            &serial.to_le_bytes(),
+            &reading.time.to_le_bytes(),
+            &amount.to_le_bytes(),
+        ],
+    )?;
+    Ok(())
+}
+
+// An error leaves `out` as it was.
+#[tactic(auto, using(crate::proofs::Rows::long_bytes), unfolding(crate::specs::Files::storable))]
 pub fn put_command(out: &mut Vec<u8>, command: Command) -> Result<(), EncodeError>
     ensures items { out.new.items ≡ (if is_ok result then out.old.items ++ command_bytes command else out.old.items) }
     ensures cases { MatchResult result (λ _. storable command ≡ true) (λ e. e ≡ (if storable command then EncodeError.OutOfMemory else EncodeError.TooLarge)) }
 {
     match command {
-        Command::Reading(e) => {
-            if e.card >= WORD_LIMIT || e.serial >= WORD_LIMIT || e.amount >= WORD_LIMIT {
-                return Err(EncodeError::TooLarge);
-            }
-            append(out, &reading_row(e))
+        Command::Reading(reading) => put_reading(out, reading),
+        Command::Watermark(time) => {
+            append(out, &[&[WATERMARK], &time.to_le_bytes()])?;
+            Ok(())
         }
-        Command::Watermark(watermark) => append(out, &watermark_row(watermark)),
     }
 }
 
 // What is written is read again.
+#[tactic(auto, using(crate::proofs::Encoding::round_trip))]
 pub fn round_trip()
     ensures { RoundTrip }
 {}
 
 // Of bytes that are read nothing is lost: their commands, written again, are those bytes.
+#[tactic(auto, using(crate::proofs::Exact::lossless))]
 pub fn lossless()
     ensures { Lossless }
 {}

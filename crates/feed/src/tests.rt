@@ -1,7 +1,7 @@
 // The layout and the texts on examples, so that a slip in a definition shows too.
-use crate::files::command_at;
+use crate::files::{Commands, command_at};
 use crate::text::{put_answer, put_ledger};
-use command::{Answer, Changes, Command, Refusal};
+use command::{Changes, Command, Refusal};
 use std::test::Fail;
 use visit::{Line, Visit};
 
@@ -50,6 +50,23 @@ fn layout(rt: HostRuntime) -> Result<(), Fail> {
 }
 
 #[test]
+fn walk(rt: HostRuntime) -> Result<(), Fail> {
+    let heap = rt.alloc();
+    let mut bytes = Vec::from_slice(heap, &WATERMARK)?;
+    bytes.extend_from_slice(&READING)?;
+    bytes.extend_from_slice(&WATERMARK[0..4])?;
+    let mut found = Commands::new(bytes.as_slice());
+    assert_eq!(rt; found.unread(), 34);
+    assert_eq!(rt; found.next(), Some(Command::Watermark(u64::MAX)));
+    assert_eq!(rt; found.unread(), 25);
+    assert!(rt; found.next().is_some(), "a reading");
+    assert_eq!(rt; found.unread(), 4);
+    assert!(rt; found.next().is_none(), "a watermark that ends early");
+    assert_eq!(rt; found.unread(), 4);
+    Ok(())
+}
+
+#[test]
 fn lines(rt: HostRuntime) -> Result<(), Fail> {
     let heap = rt.alloc();
     let gone = Visit {
@@ -71,8 +88,8 @@ fn lines(rt: HostRuntime) -> Result<(), Fail> {
         retracted: vec![in heap; gone]?,
         added: vec![in heap; new, gone]?,
     };
-    put_answer(&mut text, &Answer::Changed(changes))?;
-    put_answer(&mut text, &Answer::Refused(Refusal::Full(u64::MAX)))?;
+    put_answer(&mut text, &Ok(changes))?;
+    put_answer(&mut text, &Err(Refusal::Full(u64::MAX)))?;
     put_ledger(
         &mut text,
         &[Line {

@@ -1,5 +1,0 @@
-use Rattle.feed.proofs.Exact.{lossless}
-use Rattle.feed.proofs.files.lossless.Goals as goal
-
-pub returns : goal.returns
-returns c = lossless
