@@ -118,3 +118,7 @@ fits_stored (Watermark m) h = grind (arith, nat_tests)
 
 pub all_stored : (cs : List Command) → AllByRecursion CommandFits cs → AllByRecursion (λ c. storable c ≡ true) cs
 all_stored cs h = All-weaker CommandFits (λ c. storable c ≡ true) fits_stored cs h
+
+-- so is each command of a day that is read
+pub day_stored : (text : List ℕ) (t : Terms) (cs : List Command) → parsed_day text ≡ Ok (t, cs) → AllByRecursion (λ c. storable c ≡ true) cs
+day_stored text t cs e = all_stored cs (text_fits text t cs e).1

@@ -1,4 +1,3 @@
-mod Appending
 mod Fits
 mod Outcomes
 mod RoundTrip

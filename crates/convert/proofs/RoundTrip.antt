@@ -2,11 +2,10 @@
 use Rattle.std.proofs.Common.{◌≡◌, ℕ, List, Some, Ok, Err, Option, sym, refl, ap, ◌∙◌, arith}
 use Rattle.std.specs.Option.{option_map}
 use Rattle.std.specs.List.{flat_map, AllByRecursion}
-use Rattle.std.proofs.lemmas.List.{drop_at}
 use Rattle.visit.specs.declared.Terms.{Terms}
 use Rattle.command.specs.declared.Command.{Command}
-use Rattle.feed.specs.Files.{body, command_bytes, commands, terms_bytes, terms_in, unread}
-use Rattle.feed.proofs.Encoding.{round_trip}
+use Rattle.feed.specs.Files.{body, command_bytes, commands, terms_in, unread}
+use Rattle.feed.proofs.Encoding.{body_back, round_trip}
 use Rattle.days.specs.Parsing.{parsed_day, then}
 use Rattle.days.specs.RoundTrip.{CommandFits, TermsFit}
 use Rattle.days.specs.Writing.{day_text}
@@ -18,7 +17,7 @@ use Rattle.convert.proofs.Fits.{all_stored, text_fits}
 
 -- what stands behind the terms
 body_of : (t : Terms) (cs : List Command) → body (file_of t cs) ≡ flat_map command_bytes cs
-body_of t cs = drop_at (terms_bytes t) (flat_map command_bytes cs) 24 refl
+body_of t cs = body_back t (flat_map command_bytes cs)
 
 day_kept : (t : Terms) (cs : List Command) → TermsFit t → AllByRecursion CommandFits cs → DayKept t cs
 day_kept t cs f g =

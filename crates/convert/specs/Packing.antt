@@ -7,10 +7,8 @@ use Rattle.command.specs.declared.Command.{Command}
 use Rattle.feed.specs.Files.{command_bytes, terms_bytes}
 use Rattle.days.specs.declared.BadLine.{BadLine}
 use Rattle.days.specs.declared.ParseError.{ParseError}
-use Rattle.days.specs.declared.ParseError.TheVariants.{Bad, NoMemory as ParseNoMemory}
+use Rattle.days.specs.declared.ParseError.TheVariants.{Bad, NoMemory}
 use Rattle.days.specs.Parsing.{parsed_day, then}
-use Rattle.convert.specs.declared.PackError.{PackError}
-use Rattle.convert.specs.declared.PackError.TheVariants.{BadLine as ABadLine, NoMemory}
 
 -- The terms, then the commands one behind another.
 abbrev pub file_of : Terms → List Command → List ℕ
@@ -21,11 +19,7 @@ abbrev pub packed : List ℕ → Result (List ℕ) BadLine
 packed text = then (parsed_day text) (λ d. Ok (file_of d.0 d.1))
 
 -- What `pack` answers; want of memory says nothing of the text.
-abbrev pub Packs : List ℕ → Result (Vec ℕ Global) PackError → Type 0
+abbrev pub Packs : List ℕ → Result (Vec ℕ Global) ParseError → Type 0
 Packs text (Ok v) = packed text ≡ Ok (vec_items v)
-Packs text (Err (ABadLine b)) = packed text ≡ Err b
+Packs text (Err (Bad b)) = packed text ≡ Err b
 Packs text (Err NoMemory) = Unit {0}
-
-abbrev pub pack_error : ParseError → PackError
-pack_error (Bad b) = ABadLine b
-pack_error ParseNoMemory = NoMemory

@@ -5,9 +5,8 @@ ghost use Rattle.feed.specs.Files.{command_bytes, storable};
 ghost use Rattle.std.specs.Prelude.{◌≡◌, true, ◌++◌, OnOk};
 ghost use Rattle.std.specs.List.{flat_map, AllByRecursion};
 
-use super::PackError;
 use command::Command;
-use days::parse;
+use days::{ParseError, parse};
 use feed::files::{EncodeError, put_command, put_terms};
 use std::alloc::{AllocError, Global};
 
@@ -16,23 +15,23 @@ fn put_commands(file: &mut Vec<u8>, commands: &[Command]) -> Result<(), AllocErr
     ensures { OnOk result (file.new.items ≡ file.old.items ++ flat_map command_bytes commands.now) }
 {
     for command in commands {
-        match put_command(file, *command) {
-            Ok(()) => {}
-            Err(EncodeError::OutOfMemory) => return Err(AllocError),
-            Err(EncodeError::TooLarge) => unreachable(),
-        }
+        put_command(file, *command).map_err(|error| match error {
+            EncodeError::OutOfMemory => AllocError,
+            EncodeError::TooLarge => unreachable(),
+        })?;
     }
     Ok(())
 }
 
 // The file is made whole or not at all. `back` is the theorem that unpacking it gives the same day.
-pub fn pack(heap: Global, text: &[u8]) -> Result<Vec<u8>, PackError>
+#[tactic(auto, using(crate::proofs::RoundTrip::kept_whole, crate::proofs::Fits::day_stored))]
+pub fn pack(heap: Global, text: &[u8]) -> Result<Vec<u8>, ParseError>
     ensures packs { Packs text.now result }
     ensures back { RoundTrip }
 {
     let day = parse(heap, text)?;
     let mut file = Vec::new(heap);
     put_terms(&mut file, day.terms)?;
-    put_commands(&mut file, day.commands.as_slice())?;
+    put_commands(&mut file, &day.commands)?;
     Ok(file)
 }

@@ -8,7 +8,7 @@ ghost use Rattle.std.specs.List.{flat_map};
 
 use super::Unpacked;
 use days::{put_command, put_terms};
-use feed::files::{TERMS_SIZE, command_at, read_terms};
+use feed::files::{Commands, TERMS_SIZE, read_terms};
 use std::alloc::{AllocError, Global};
 
 // Puts commands behind the text up to where decoding stops, and gives how many bytes are left there.
@@ -16,12 +16,12 @@ fn put_commands(text: &mut String, bytes: &[u8]) -> Result<usize, AllocError>
     ensures lines { OnOk result (string_bytes text.new ≡ string_bytes text.old ++ flat_map command_text (commands bytes.now)) }
     ensures rest { IfOk result (λ n. n ≡ Unread bytes.now) }
 {
-    let mut at = 0;
-    while let Some((command, next)) = command_at(bytes, at) {
+    let mut found = Commands::new(bytes);
+    // Nothing is known of an iterator that a `for` has borrowed, and what is left is asked for.
+    while let Some(command) = found.next() {
         put_command(text, command)?;
-        at = next;
     }
-    Ok(bytes.len() - at)
+    Ok(found.unread())
 }
 
 // None if the file is shorter than its terms.

@@ -1,28 +1,52 @@
--- Digits one by one, and the value that they write.
-use Rattle.std.proofs.Common.{◌≡◌, ℕ, ◌+◌, ◌-◌, ◌*◌, ◌<◌, ◌≤◌, not, ◌&&◌, eqb, List, [], ◌∷◌, length, get_or, drop, refl, arith}
+-- Words of digits, and the value that they write.
+use Rattle.std.proofs.Common.{◌≡◌, ℕ, ◌+◌, ◌^◌, ◌<◌, ◌≤◌, true, false, not, ◌&&◌, eqb, List, [], ◌∷◌, length, Ok, Err, Result, refl, ap, subst, arith, rules}
 use Rattle.std.specs.Char.{is_ascii_digit}
-use Rattle.std.specs.Str.{all_ascii_digits}
-use Rattle.std.proofs.lemmas.List.{at_drop_all, at_drop_more}
+use Rattle.std.specs.List.{AllByRecursion, list_all}
+use Rattle.std.specs.Str.{IsUtf8, all_ascii_digits}
+use Rattle.std.specs.Str.Parse.{ParsesUnsigned}
+use Rattle.std.proofs.ByRecursion.{IsAscii-from_all}
 use Rattle.std.proofs.lemmas.Bool.Decides.{nat_tests}
-use Rattle.days.specs.Numbers.{value_after}
+use Rattle.std.proofs.lemmas.Str.Parse.{IsNumeralModel, numerals_by_fold, parse_digits}
+use Rattle.days.specs.declared.Reason.TheVariants.{TooLarge}
+use Rattle.days.specs.Numbers.{is_number, number_in, value_after}
 use Rattle.days.specs.Words.{filled}
+use Rattle.days.proofs.Splitting.{split}
+use Rattle.std.proofs.lemmas.Str.{IsUtf8-from_ascii}
+
+pub own : IsNumeralModel (λ ds. all_ascii_digits ds ≡ true) (value_after 0)
+own = numerals_by_fold _ (search rules) value_after (search rules)
 
 pub filled_is : (w : List ℕ) → filled w ≡ not (eqb (length w) 0)
 filled_is [] = refl
 filled_is (b ∷ bs) = grind (arith, nat_tests)
 
-pub digits_here : (xs : List ℕ) (i : ℕ) → i < length xs → all_ascii_digits (drop i xs) ≡ (is_ascii_digit (get_or xs i 0) && all_ascii_digits (drop (i + 1) xs))
-digits_here xs i h = at_drop_more all_ascii_digits xs i 0 h
+pub digits_all : (w : List ℕ) → list_all is_ascii_digit w ≡ all_ascii_digits w
+digits_all [] = refl
+digits_all (b ∷ bs) = ap (λ r. is_ascii_digit b && r) (digits_all bs)
 
-pub digits_end : (xs : List ℕ) (i : ℕ) → length xs ≤ i → all_ascii_digits (drop i xs) ≡ all_ascii_digits []
-digits_end xs i h = at_drop_all all_ascii_digits xs i h
+below : (w : List ℕ) → all_ascii_digits w ≡ true → AllByRecursion (λ b. b < 128) w
+below [] h = tt
+below (b ∷ bs) h = (grind (arith, nat_tests), below bs (grind (arith, nat_tests)))
 
-pub value_here : (n : ℕ) (xs : List ℕ) (i : ℕ) → i < length xs → value_after n (drop i xs) ≡ value_after (10 * n + (get_or xs i 0 - 48)) (drop (i + 1) xs)
-value_here n xs i h = at_drop_more (value_after n) xs i 0 h
+pub no_text : (w : List ℕ) → (IsUtf8 w → ⊥) → is_number w ≡ false
+no_text w n = split (is_number w) (λ o. absurd (n (IsUtf8-from_ascii w (IsAscii-from_all w (below w (grind (arith, nat_tests))))))) (λ o. o)
 
-pub value_end : (n : ℕ) (xs : List ℕ) (i : ℕ) → length xs ≤ i → value_after n (drop i xs) ≡ n
-value_end n xs i h = at_drop_all (value_after n) xs i h
+-- what `parse` reads of a number
+module _ {E : Type 0} (most : ℕ) (w : List ℕ) (r : Result ℕ E) (parsed : ParsesUnsigned 64 10 w r) (number : is_number w ≡ true) where
+  pub read_fits : (n : ℕ) → r ≡ Ok n → n ≤ most → Ok n ≡ number_in (most + 1) w
+  read_fits n e l =
+      let v = subst (λ s. ParsesUnsigned 64 10 w s) e parsed in
+      let q = parse_digits own {E = E} 64 w (Ok n) v (grind (arith, nat_tests)) in
+      grind (arith, nat_tests)
 
-pub value_grows : (n : ℕ) (ds : List ℕ) → n ≤ value_after n ds
-value_grows n [] = omega arith
-value_grows n (d ∷ ds) = let ih = value_grows (10 * n + (d - 48)) ds in omega arith
+  pub read_large : (n : ℕ) → r ≡ Ok n → most < n → Err TooLarge ≡ number_in (most + 1) w
+  read_large n e l =
+      let v = subst (λ s. ParsesUnsigned 64 10 w s) e parsed in
+      let q = parse_digits own {E = E} 64 w (Ok n) v (grind (arith, nat_tests)) in
+      grind (arith, nat_tests)
+
+  pub unread_large : (x : E) → r ≡ Err x → most < 2 ^ 64 → Err TooLarge ≡ number_in (most + 1) w
+  unread_large x e l =
+      let v = subst (λ s. ParsesUnsigned 64 10 w s) e parsed in
+      let q = parse_digits own {E = E} 64 w (Err x) v (grind (arith, nat_tests)) in
+      grind (arith, nat_tests)

@@ -1,55 +1,41 @@
 -- A written day is read back.
-use Rattle.std.proofs.Common.{◌≡◌, ℕ, ◌+◌, ◌^◌, ◌<◌, Bool, true, false, eqb, ltb, List, [], ◌∷◌, ◌++◌, length, Ok, decimal, Result, refl, ap, ◌∙◌, append_assoc, arith, rules}
+use Rattle.std.proofs.Common.{◌≡◌, ℕ, ◌+◌, ◌^◌, ◌<◌, true, false, eqb, ltb, List, [], ◌∷◌, ◌++◌, length, filter, Ok, decimal, Result, refl, ap, ◌∙◌, append_assoc, arith, rules}
 use Rattle.std.specs.List.{flat_map, AllByRecursion}
 use Rattle.std.specs.Str.{all_ascii_digits}
 use Rattle.std.proofs.lemmas.Fmt.{decimal_nonempty, digits_decimal, digits_value-decimal}
 use Rattle.std.proofs.ByRecursion.{All-append, All-weaker}
-use Rattle.std.proofs.lemmas.Str.Parse.{IsNumeralModel, numerals_by_fold}
+use Rattle.std.proofs.lemmas.List.Elements.{All-from_recursion}
+use Rattle.std.proofs.lemmas.List.Splits.{slice_split_at, slice_split_none}
 use Rattle.std.proofs.lemmas.Bool.Decides.{nat_tests}
 use Rattle.visit.specs.declared.Terms.{Terms}
 use Rattle.command.specs.declared.Command.{Command}
 use Rattle.command.specs.declared.Command.TheVariants.{Reading, Watermark}
 use Rattle.days.specs.declared.BadLine.{BadLine}
 use Rattle.days.specs.declared.Reason.{Reason}
-use Rattle.days.specs.declared.words.Class.TheVariants.{Code, Line, Word}
 use Rattle.command.specs.Bounds.{word_limit}
-use Rattle.days.specs.Numbers.{number_in, number_limit, value_after}
+use Rattle.days.specs.Numbers.{number_in, number_limit}
 use Rattle.days.specs.Parsing.{at_line, commands_from, day_from, parsed_command, parsed_terms, then}
 use Rattle.days.specs.RoundTrip.{CommandFits, ParsesBack, TermsFit}
-use Rattle.days.specs.Words.{belongs, filled, front, line_words, lines, onto, pieces, words}
+use Rattle.days.specs.Words.{blank, filled, hash, line_words, lines, newline, words}
 use Rattle.days.specs.Writing.{command_text, command_words, spaced, terms_words}
-use Rattle.days.proofs.Digits.{filled_is}
-use Rattle.days.proofs.Splitting.{words_nil}
+use Rattle.days.proofs.Digits.{filled_is, own}
+use Rattle.days.proofs.Splitting.{before_all, lines_cut, words_nil}
 use Rattle.days.proofs.Steps.{commands_line, day_line}
-
--- pieces are what was put together
-pieces_cut : (p : ℕ → Bool) (s : ℕ) (w rest : List ℕ) → p s ≡ false → AllByRecursion (λ b. p b ≡ true) w → pieces p (w ++ s ∷ rest) ≡ w ∷ pieces p rest
-pieces_cut p s [] rest e a = simp e
-pieces_cut p s (b ∷ w) rest e a = simp a.0 (ap (onto b) (pieces_cut p s w rest e a.1))
-
-pieces_one : (p : ℕ → Bool) (b : ℕ) (w : List ℕ) → AllByRecursion (λ b. p b ≡ true) (b ∷ w) → pieces p (b ∷ w) ≡ (b ∷ w) ∷ []
-pieces_one p b [] a = simp a.0
-pieces_one p b (c ∷ w) a = simp a.0 (ap (onto b) (pieces_one p c w a.1))
-
-front_all : (p : ℕ → Bool) (l : List ℕ) → AllByRecursion (λ b. p b ≡ true) l → front p l ≡ l
-front_all p [] a = refl
-front_all p (b ∷ l) a = simp a.0 (ap (λ (m : List ℕ). b ∷ m) (front_all p l a.1))
 
 -- a byte that ends neither a line nor its code, and one that ends no word either
 abbrev Inline : ℕ → Type 0
-Inline b = (belongs Line b ≡ true) × (belongs Code b ≡ true)
+Inline b = (newline b ≡ false) × (hash b ≡ false)
 
 abbrev Clean : List ℕ → Type 0
-Clean w = (filled w ≡ true) × (AllByRecursion (λ b. belongs Word b ≡ true) w × AllByRecursion Inline w)
+Clean w = (filled w ≡ true) × (AllByRecursion (λ b. blank b ≡ false) w × AllByRecursion Inline w)
 
 words_cut : (w rest : List ℕ) → Clean w → words (w ++ 32 ∷ rest) ≡ w ∷ words rest
 unfolding words
-words_cut w rest h = simp (pieces_cut (belongs Word) 32 w rest refl h.1.0, h.0)
+words_cut w rest h = ap (filter filled) (slice_split_at blank w 32 rest (All-from_recursion (λ b. blank b ≡ false) w h.1.0) refl) ∙ simp h.0
 
 words_one : (w : List ℕ) → Clean w → words w ≡ w ∷ []
 unfolding words
-words_one [] h = let z : ◌≡◌ {A = ℕ} 0 1 = cc h.0 in absurd (omega arith)
-words_one (b ∷ w) h = simp (pieces_one (belongs Word) b w h.1.0)
+words_one w h = ap (filter filled) (slice_split_none blank w (All-from_recursion (λ b. blank b ≡ false) w h.1.0)) ∙ simp h.0
 
 words_spaced : (ws : List (List ℕ)) → AllByRecursion Clean ws → words (spaced ws) ≡ ws
 words_spaced [] a = words_nil
@@ -63,21 +49,17 @@ spaced_inline (w ∷ v ∷ ws) a = All-append Inline w (32 ∷ spaced (v ∷ ws)
 
 -- a line of words, and the words of that line
 lines_back : (ws : List (List ℕ)) (rest : List ℕ) → AllByRecursion Clean ws → lines ((spaced ws ++ 10 ∷ []) ++ rest) ≡ spaced ws ∷ lines rest
-unfolding lines
 lines_back ws rest a =
-    ap (pieces (belongs Line)) (append_assoc (spaced ws) (10 ∷ []) rest)
-    ∙ pieces_cut (belongs Line) 10 (spaced ws) rest refl (All-weaker Inline (λ b. belongs Line b ≡ true) (λ b h. h.0) (spaced ws) (spaced_inline ws a))
+    ap lines (append_assoc (spaced ws) (10 ∷ []) rest)
+    ∙ lines_cut (spaced ws) rest (All-weaker Inline (λ b. newline b ≡ false) (λ b h. h.0) (spaced ws) (spaced_inline ws a))
 
 words_back : (ws : List (List ℕ)) → AllByRecursion Clean ws → line_words (spaced ws) ≡ ws
 words_back ws a =
-    ap words (front_all (belongs Code) (spaced ws) (All-weaker Inline (λ b. belongs Code b ≡ true) (λ b h. h.1) (spaced ws) (spaced_inline ws a)))
+    ap words (before_all hash (spaced ws) (All-weaker Inline (λ b. hash b ≡ false) (λ b h. h.1) (spaced ws) (spaced_inline ws a)))
     ∙ words_spaced ws a
 
 -- numbers
-own : IsNumeralModel (λ ds. all_ascii_digits ds ≡ true) (value_after 0)
-own = numerals_by_fold _ (search rules) value_after (search rules)
-
-digits_word : (ds : List ℕ) → all_ascii_digits ds ≡ true → AllByRecursion (λ b. belongs Word b ≡ true) ds
+digits_word : (ds : List ℕ) → all_ascii_digits ds ≡ true → AllByRecursion (λ b. blank b ≡ false) ds
 digits_word [] h = tt
 digits_word (d ∷ ds) h = (grind (arith, nat_tests), digits_word ds (grind (arith, nat_tests)))
 

@@ -1,98 +1,108 @@
--- Texts cut into pieces: the front piece and what follows it, words and lines.
-use Rattle.std.proofs.Common.{◌≡◌, ℕ, zero, suc, ◌+◌, ◌<◌, ◌≤◌, Bool, true, false, cond, eqb, leb, List, [], ◌∷◌, ◌++◌, length, get_or, take, drop, filter, sym, refl, ap, ◌∙◌, subst, add-one, arith}
-use Rattle.std.specs.List.{AllByRecursion}
-use Rattle.std.proofs.ByRecursion.{kept_by_passes}
-use Rattle.std.proofs.lemmas.List.{at_drop_all, drop_at, drop_more, length-append, take_at}
+-- Texts cut at a byte: what stands before it, and lines.
+use Rattle.std.proofs.Common.{◌≡◌, ℕ, ◌+◌, ◌<◌, ◌≤◌, Bool, true, false, cond, not, ◌||◌, ltb, List, [], ◌∷◌, ◌++◌, length, get_or, take, min, Some, None, sym, refl, ap, ◌∙◌, subst, append_assoc, append-nil, arith}
+use Rattle.std.specs.List.{AllByRecursion, before_first, onto_first, IsFirstMatchOrLen, position_or_len}
+use Rattle.std.specs.Fn.{CalledAt, ComputesKey}
+use Rattle.std.specs.Option.{unwrap_or}
+use Rattle.std.proofs.lemmas.Fn.{always_returns_same}
+use denote.Param.Members.{Mut}
+use denote.Ref.{Bor}
+use Rattle.std.proofs.lemmas.List.{nil_from_length, take_all, take_more}
+use Rattle.std.proofs.lemmas.List.Sums.{prefix_len-le-length, take_while-cons}
+use Rattle.std.proofs.ByRecursion.{all_from_every}
+use Rattle.std.proofs.lemmas.Grind.{common_steps}
 use Rattle.std.proofs.lemmas.Bool.Decides.{nat_tests}
-use Rattle.days.specs.declared.words.Class.TheVariants.{Line, Blank, Word}
-use Rattle.days.specs.Words.{belongs, beyond, blank, filled, front, lines, onto, pieces, words}
+use Rattle.days.specs.Words.{hash, lines, newline, words}
 
 -- cases by a test
 abbrev pub split : {P : Type 0} (b : Bool) → (b ≡ true → P) → (b ≡ false → P) → P
 split true f g = f refl
 split false f g = g refl
 
-pub front_beyond : (p : ℕ → Bool) (xs : List ℕ) → front p xs ++ beyond p xs ≡ xs
-front_beyond p [] = refl
-front_beyond p (b ∷ bs) =
-    let ih = front_beyond p bs in split (p b) (λ o. simp (o, ih)) (λ o. simp o)
+-- the place of the first element that passes, or else the length
+pub found_or_len : (p : ℕ → Bool) (xs : List ℕ) → unwrap_or (cond (ltb (position_or_len p xs) (length xs)) (Some (position_or_len p xs)) None) (length xs) ≡ position_or_len p xs
+found_or_len p xs = let l = prefix_len-le-length (λ b. not (p b)) xs in grind (arith, nat_tests)
 
--- the first piece of a text that has one
-pub pieces_step : (p : ℕ → Bool) (b : ℕ) (bs : List ℕ) → pieces p (b ∷ bs) ≡ front p (b ∷ bs) ∷ pieces p (drop 1 (beyond p (b ∷ bs)))
-pieces_step p b [] = split (p b) (λ o. simp o) (λ o. simp o)
-pieces_step p b (c ∷ cs) =
-    let ih : pieces p (c ∷ cs) ≡ front p (c ∷ cs) ∷ pieces p (drop 1 (beyond p (c ∷ cs))) = pieces_step p c cs in
-    split (p b) (λ o. simp o (ap (onto b) ih)) (λ o. simp o)
+before_stop : (p : ℕ → Bool) (b : ℕ) (bs : List ℕ) → p b ≡ true → before_first p (b ∷ bs) ≡ []
+before_stop p b bs o = take_while-cons (λ c. not (p c)) b bs ∙ simp o
+
+before_on : (p : ℕ → Bool) (b : ℕ) (bs : List ℕ) → p b ≡ false → before_first p (b ∷ bs) ≡ b ∷ before_first p bs
+before_on p b bs o = take_while-cons (λ c. not (p c)) b bs ∙ simp o
+
+-- what stands before the first of two bytes
+pub code_cut : (xs : List ℕ) → before_first (λ b. hash b || newline b) xs ≡ before_first hash (before_first newline xs)
+code_cut [] = refl
+code_cut (b ∷ bs) =
+    split (newline b)
+    (λ n. before_stop (λ c. hash c || newline c) b bs (grind (arith, nat_tests)) ∙ sym (ap (before_first hash) (before_stop newline b bs n)))
+    (λ n. split (hash b)
+    (λ h. before_stop (λ c. hash c || newline c) b bs (grind (arith, nat_tests)) ∙ sym (ap (before_first hash) (before_on newline b bs n) ∙ before_stop hash b (before_first newline bs) h))
+    (λ h. before_on (λ c. hash c || newline c) b bs (grind (arith, nat_tests))
+    ∙ ap (λ (l : List ℕ). b ∷ l) (code_cut bs)
+    ∙ sym (ap (before_first hash) (before_on newline b bs n) ∙ before_on hash b (before_first newline bs) h)))
 
 pub words_nil : words [] ≡ []
 unfolding words
 words_nil = refl
 
--- a blank in front of words does not count
-pub words_blank : (b : ℕ) (bs : List ℕ) → blank b ≡ true → words (b ∷ bs) ≡ words bs
-unfolding words
-words_blank b bs o = simp o
-
--- one byte on
-pub front_here : (p : ℕ → Bool) (xs : List ℕ) (i : ℕ) → i < length xs → length (front p (drop i xs)) ≡ cond (p (get_or xs i 0)) (length (front p (drop (i + 1) xs)) + 1) 0
-front_here p xs i h =
-    ap (λ (l : List ℕ). length (front p l)) (drop_more xs i 0 h)
-    ∙ split (p (get_or xs i 0)) (λ o. simp (o, add-one)) (λ o. simp o)
-
-pub front_end : (p : ℕ → Bool) (xs : List ℕ) (i : ℕ) → length xs ≤ i → length (front p (drop i xs)) ≡ 0
-front_end p xs i h = at_drop_all (λ (l : List ℕ). length (front p l)) xs i h
-
-pub front_take : (p : ℕ → Bool) (xs : List ℕ) → take (length (front p xs)) xs ≡ front p xs
-front_take p xs = subst (λ (l : List ℕ). take (length (front p xs)) l ≡ front p xs) (front_beyond p xs) (take_at (front p xs) (beyond p xs) _ refl)
-
-pub beyond_drop : (p : ℕ → Bool) (xs : List ℕ) → drop (length (front p xs)) xs ≡ beyond p xs
-beyond_drop p xs = subst (λ (l : List ℕ). drop (length (front p xs)) l ≡ beyond p xs) (front_beyond p xs) (drop_at (front p xs) (beyond p xs) _ refl)
-
-pub front_short : (p : ℕ → Bool) (xs : List ℕ) → length (front p xs) ≤ length xs
-front_short p xs = omega (arith, simp length-append at (ap length (front_beyond p xs)))
-
-pub beyond_short : (p : ℕ → Bool) (xs : List ℕ) → length (beyond p xs) ≤ length xs
-beyond_short p xs = omega (arith, simp length-append at (ap length (front_beyond p xs)))
-
--- lines
-pub lines_step : (xs : List ℕ) → 0 < length xs → lines xs ≡ front (belongs Line) xs ∷ lines (drop 1 (beyond (belongs Line) xs))
+-- a line ends at its newline, or with the text
+pub lines_cut : (line rest : List ℕ) → AllByRecursion (λ b. newline b ≡ false) line → lines (line ++ 10 ∷ rest) ≡ line ∷ lines rest
 unfolding lines
-lines_step [] h = absurd (omega arith)
-lines_step (b ∷ bs) h = pieces_step (belongs Line) b bs
+lines_cut [] rest a = refl
+lines_cut (b ∷ bs) rest a = simp a.0 (ap (onto_first b) (lines_cut bs rest a.1))
 
--- words: what follows a word begins with a blank, if with anything
-after_word : (xs : List ℕ) → words (beyond (belongs Word) xs) ≡ words (drop 1 (beyond (belongs Word) xs))
-unfolding words
-after_word [] = refl
-after_word (b ∷ bs) = split (belongs Word b) (λ o. simp o (after_word bs)) (λ o. simp o)
+pub lines_last : (b : ℕ) (bs : List ℕ) → AllByRecursion (λ b. newline b ≡ false) (b ∷ bs) → lines (b ∷ bs) ≡ (b ∷ bs) ∷ []
+unfolding lines
+lines_last b [] a = simp a.0
+lines_last b (c ∷ cs) a = simp a.0 (ap (onto_first b) (lines_last c cs a.1))
 
-words_at_word : (b : ℕ) (bs : List ℕ) → blank b ≡ false → words (b ∷ bs) ≡ front (belongs Word) (b ∷ bs) ∷ words (beyond (belongs Word) (b ∷ bs))
-unfolding words
-words_at_word b bs o =
-    ap (filter filled) (pieces_step (belongs Word) b bs) ∙ simp o (ap (λ (l : List (List ℕ)). (b ∷ front (belongs Word) bs) ∷ l) (sym (after_word bs)))
+lines_all : (xs : List ℕ) → AllByRecursion (λ b. newline b ≡ false) xs → 0 < length xs → lines xs ≡ xs ∷ []
+lines_all [] a some = absurd (omega arith)
+lines_all (b ∷ bs) a some = lines_last b bs a
 
--- the first word, and the words behind it
-pub word_first : (xs : List ℕ) → front (belongs Word) (beyond (belongs Blank) xs) ≡ get_or (words xs) 0 []
-word_first [] = ap (λ (l : List (List ℕ)). get_or l 0 []) (sym words_nil)
-word_first (b ∷ bs) =
-    split (blank b)
-    (λ o. simp o (word_first bs ∙ ap (λ (l : List (List ℕ)). get_or l 0 []) (sym (words_blank b bs o))))
-    (λ o. simp (o, words_at_word b bs o))
+pub lines_nil : lines [] ≡ []
+unfolding lines
+lines_nil = refl
 
-pub words_rest : (xs : List ℕ) → words (beyond (belongs Word) (beyond (belongs Blank) xs)) ≡ drop 1 (words xs)
-words_rest [] = simp words_nil
-words_rest (b ∷ bs) =
-    split (blank b)
-    (λ o. simp o (words_rest bs ∙ ap (drop 1) (sym (words_blank b bs o))))
-    (λ o. simp (o, words_at_word b bs o))
+pub before_all : (p : ℕ → Bool) (xs : List ℕ) → AllByRecursion (λ b. p b ≡ false) xs → before_first p xs ≡ xs
+before_all p [] a = refl
+before_all p (b ∷ bs) a = before_on p b bs a.0 ∙ ap (λ (l : List ℕ). b ∷ l) (before_all p bs a.1)
 
--- words are never empty
-short_list : (ws : List (List ℕ)) → AllByRecursion (λ w. filled w ≡ true) ws → (n : ℕ) → eqb (length (get_or ws n [])) 0 ≡ leb (length ws) n
-short_list [] a n = grind (arith, nat_tests)
-short_list ([] ∷ ws) a n = let z : ◌≡◌ {A = ℕ} 0 1 = cc a.0 in absurd (omega arith)
-short_list ((b ∷ w) ∷ ws) a zero = grind (arith, nat_tests)
-short_list ((b ∷ w) ∷ ws) a (suc n) = let ih = short_list ws a.1 n in grind (arith, nat_tests)
+before_cut : (xs rest : List ℕ) → AllByRecursion (λ b. newline b ≡ false) xs → before_first newline (xs ++ 10 ∷ rest) ≡ xs
+before_cut [] rest a = refl
+before_cut (b ∷ bs) rest a = before_on newline b (bs ++ 10 ∷ rest) a.0 ∙ ap (λ (l : List ℕ). b ∷ l) (before_cut bs rest a.1)
 
-pub short : (xs : List ℕ) (n : ℕ) → eqb (length (get_or (words xs) n [])) 0 ≡ leb (length (words xs)) n
-unfolding words
-short xs n = short_list (words xs) (kept_by_passes filled (pieces (belongs Word) xs)) n
+-- a piece that ends at place i
+cut_here : (xs x rest : List ℕ) (i : ℕ) → xs ≡ x ++ rest → length x ≡ min (i + 1) (length xs) → IsFirstMatchOrLen newline xs i → i < length xs → lines xs ≡ before_first newline x ∷ lines rest
+cut_here xs x rest i e n first inside =
+    let size : length x ≡ i + 1 = grind arith in
+    let w = take i x in
+    let none : AllByRecursion (λ b. newline b ≡ false) w =
+    all_from_every (λ b. newline b ≡ false) w (λ k d low high. let f = first.0 k d low (grind (arith, common_steps)) in grind (arith, common_steps)) in
+    let ends : newline (get_or x i 0) ≡ true = let f = first.1 inside 0 in grind (arith, common_steps) in
+    let ten : get_or x i 0 ≡ 10 = grind (arith, nat_tests) in
+    let seen : x ≡ w ++ 10 ∷ [] = sym (take_all (i + 1) x (grind arith)) ∙ take_more x i 0 (grind arith) ∙ ap (λ (b : ℕ). w ++ b ∷ []) ten in
+    let whole : xs ≡ w ++ 10 ∷ rest = e ∙ ap (λ (l : List ℕ). l ++ rest) seen ∙ append_assoc w (10 ∷ []) rest in
+    ap lines whole ∙ lines_cut w rest none ∙ ap (λ (l : List ℕ). l ∷ lines rest) (sym (ap (before_first newline) seen ∙ before_cut w [] none))
+
+cut_end : (xs x rest : List ℕ) (i : ℕ) → xs ≡ x ++ rest → length x ≡ min (i + 1) (length xs) → IsFirstMatchOrLen newline xs i → length xs ≤ i → 0 < length xs → lines xs ≡ before_first newline x ∷ lines rest
+cut_end xs x rest i e n first outside some =
+    let size : length rest ≡ 0 = grind (arith, common_steps, ap length e) in
+    let empty : rest ≡ [] = nil_from_length rest size in
+    let same : xs ≡ x = e ∙ ap (λ (l : List ℕ). x ++ l) empty ∙ append-nil x in
+    let none : AllByRecursion (λ b. newline b ≡ false) x =
+    subst (AllByRecursion (λ b. newline b ≡ false)) same (all_from_every (λ b. newline b ≡ false) xs (λ k d low high. first.0 k d low (grind arith))) in
+    ap lines same ∙ lines_all x none (subst (λ (l : List ℕ). 0 < length l) same some) ∙ ap (λ (l : List ℕ). l ∷ []) (sym (before_all newline x none)) ∙ ap (λ (ls : List (List ℕ)). before_first newline x ∷ ls) (sym (ap lines empty ∙ lines_nil))
+
+lines_next : (xs x rest : List ℕ) (i : ℕ) → xs ≡ x ++ rest → length x ≡ min (i + 1) (length xs) → IsFirstMatchOrLen newline xs i → 0 < length xs → lines xs ≡ before_first newline x ∷ lines rest
+lines_next xs x rest i e n first some =
+    split (ltb i (length xs))
+    (λ h. cut_here xs x rest i e n first (grind (arith, nat_tests)))
+    (λ h. cut_end xs x rest i e n first (grind (arith, nat_tests)) some)
+
+-- a piece that `split_inclusive` gives is the next line with its newline
+pub line_taken : {F : Type 0} (g : Mut F (Bor ℕ × Unit {0}) Bool) (f f' : F) (xs x rest : List ℕ) → (xs ≡ x ++ rest) × ((i : ℕ) × (length x ≡ min (i + 1) (length xs)) × ((p : ℕ → Bool) → ComputesKey g p f → ComputesKey g p f' × IsFirstMatchOrLen p xs i)) × (0 < length xs)
+    → ((b : ℕ) (r : Bool) (q : F) → CalledAt g f b r q → (q ≡ f) × (r ≡ newline b)) → lines xs ≡ before_first newline x ∷ lines rest
+line_taken g f f' xs x rest h tests =
+    let computes : ComputesKey g newline f =
+    always_returns_same g (λ a r. r ≡ newline a.0.now) f (λ a r q k. let m = tests a.0.now r q (record { shown = a.0; shows = refl; called = k }) in (m.1, m.0)) in
+    lines_next xs x rest h.1.0 h.0 h.1.1 (h.1.2 newline computes).1 h.2

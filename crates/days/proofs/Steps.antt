@@ -1,97 +1,117 @@
 -- One line of a day, and the end of its lines.
-use Rattle.std.proofs.Common.{◌≡◌, ℕ, ◌+◌, Bool, true, false, eqb, List, [], ◌∷◌, ◌++◌, length, Ok, Err, Result, sym, refl, ap, ◌∙◌, append_assoc, append-nil}
+use Rattle.std.proofs.Common.{◌≡◌, ℕ, ◌+◌, Bool, true, false, eqb, List, [], ◌∷◌, ◌++◌, length, Some, None, Ok, Err, Option, Result, sym, refl, ap, ◌∙◌, append_assoc, append-nil}
+use Rattle.std.specs.List.{before_first}
+use Rattle.std.proofs.lemmas.List.{nil_from_length}
 use Rattle.visit.specs.declared.Terms.{Terms}
 use Rattle.command.specs.declared.Command.{Command}
 use Rattle.days.specs.declared.BadLine.{BadLine}
 use Rattle.days.specs.declared.Reason.{Reason}
 use Rattle.days.specs.declared.Reason.TheVariants.{NoTerms}
-use Rattle.days.specs.declared.words.Class.TheVariants.{Code, Line}
 use Rattle.days.specs.Parsing.{at_line, commands_from, day_from, parsed_command, parsed_terms, then}
-use Rattle.days.specs.Words.{belongs, front, line_words, lines, words}
-
--- a turn of a loop over the lines of xs: the first line before its comment, what follows, and whether it has no words
-pub record Turn (xs code next : List ℕ) (bare : Bool) : Type 0 where
-  pub line : code ≡ front (belongs Code) (front (belongs Line) xs)
-  pub rest : lines xs ≡ front (belongs Line) xs ∷ lines next
-  pub test : bare ≡ eqb (length (words code)) 0
-
--- the test at the line itself
-bare_line : {xs code next : List ℕ} {bare b : Bool} → Turn xs code next bare → bare ≡ b → eqb (length (line_words (front (belongs Line) xs))) 0 ≡ b
-bare_line h o = ap (λ (w : List ℕ). eqb (length (words w)) 0) (sym h.line) ∙ sym h.test ∙ o
+use Rattle.days.specs.Words.{line_words, lines, newline}
 
 pub day_line : (n : ℕ) (l : List ℕ) (ls : List (List ℕ)) → eqb (length (line_words l)) 0 ≡ false → day_from n (l ∷ ls) ≡ then (at_line n (parsed_terms (line_words l))) (λ t. then (commands_from (n + 1) ls) (λ cs. Ok (t, cs)))
 unfolding day_from
 day_line n l ls o = simp o
 
-pub day_blank : (n : ℕ) (l : List ℕ) (ls : List (List ℕ)) → eqb (length (line_words l)) 0 ≡ true → day_from n (l ∷ ls) ≡ day_from (n + 1) ls
-unfolding day_from
-day_blank n l ls o = simp o
-
--- the terms of a day
-module _ {xs code next : List ℕ} {bare : Bool} (n : ℕ) (h : Turn xs code next bare) where
-  pub day_skips : bare ≡ true → day_from n (lines xs) ≡ day_from (n + 1) (lines next)
-  day_skips o = ap (day_from n) h.rest ∙ day_blank n _ _ (bare_line h o)
-
-  day_reads : (r : Result Terms Reason) → bare ≡ false → r ≡ parsed_terms (words code) → day_from n (lines xs) ≡ then (at_line n r) (λ t. then (commands_from (n + 1) (lines next)) (λ cs. Ok (t, cs)))
-  day_reads r o read =
-      ap (day_from n) h.rest ∙ day_line n _ _ (bare_line h o)
-      ∙ ap (λ (s : Result Terms Reason). then (at_line n s) (λ t. then (commands_from (n + 1) (lines next)) (λ cs. Ok (t, cs))))
-      (ap (λ (w : List ℕ). parsed_terms (words w)) (sym h.line) ∙ sym read)
-
-  pub day_opens : (r : Result Terms Reason) (t : Terms) → bare ≡ false → r ≡ parsed_terms (words code) → Ok t ≡ at_line n r → day_from n (lines xs) ≡ then (commands_from (n + 1) (lines next)) (λ cs. Ok (t, cs))
-  day_opens r t o read got =
-      day_reads r o read ∙ ap (λ (s : Result Terms BadLine). then s (λ t. then (commands_from (n + 1) (lines next)) (λ cs. Ok (t, cs)))) (sym got)
-
-  pub day_bad : (r : Result Terms Reason) (b : BadLine) → bare ≡ false → r ≡ parsed_terms (words code) → Err b ≡ at_line n r → day_from n (lines xs) ≡ Err b
-  day_bad r b o read got =
-      day_reads r o read ∙ ap (λ (s : Result Terms BadLine). then s (λ t. then (commands_from (n + 1) (lines next)) (λ cs. Ok (t, cs)))) (sym got)
-
-pub day_nil : (n : ℕ) → day_from n (lines []) ≡ Err (record { line = n; reason = NoTerms })
-unfolding day_from lines
-day_nil n = refl
-
--- commands that are read already, before those of the lines that are left
-abbrev pub behind : List Command → Result (List Command) BadLine → Result (List Command) BadLine
-behind done left = then left (λ cs. Ok (done ++ cs))
-
-behind_more : (done : List Command) (c : Command) (r : Result (List Command) BadLine) → behind done (then r (λ cs. Ok (c ∷ cs))) ≡ behind (done ++ c ∷ []) r
-behind_more done c (Ok cs) = ap (λ (l : List Command). Ok l) (sym (append_assoc done (c ∷ []) cs))
-behind_more done c (Err b) = refl
-
 pub commands_line : (n : ℕ) (l : List ℕ) (ls : List (List ℕ)) → eqb (length (line_words l)) 0 ≡ false → commands_from n (l ∷ ls) ≡ then (at_line n (parsed_command (line_words l))) (λ c. then (commands_from (n + 1) ls) (λ cs. Ok (c ∷ cs)))
 unfolding commands_from
 commands_line n l ls o = simp o
 
-commands_blank : (n : ℕ) (l : List ℕ) (ls : List (List ℕ)) → eqb (length (line_words l)) 0 ≡ true → commands_from n (l ∷ ls) ≡ commands_from (n + 1) ls
-unfolding commands_from
-commands_blank n l ls o = simp o
+-- what the lines that are left say, with the terms if they are read already
+abbrev pub left : Option Terms → ℕ → List (List ℕ) → Result (Terms × List Command) BadLine
+left None n ls = day_from n ls
+left (Some t) n ls = then (commands_from n ls) (λ cs. Ok (t, cs))
 
-module _ {xs code next : List ℕ} {bare : Bool} (done : List Command) (n : ℕ) (h : Turn xs code next bare) where
-  pub commands_skip : (all : List Command) → bare ≡ true → all ≡ done → behind done (commands_from n (lines xs)) ≡ behind all (commands_from (n + 1) (lines next))
-  commands_skip all o same =
-      ap (λ (ls : List (List ℕ)). behind done (commands_from n ls)) h.rest ∙ ap (behind done) (commands_blank n _ _ (bare_line h o))
-      ∙ ap (λ (d : List Command). behind d (commands_from (n + 1) (lines next))) (sym same)
+-- the same, behind the commands that are read already
+abbrev pub behind : List Command → Result (Terms × List Command) BadLine → Result (Terms × List Command) BadLine
+behind done r = then r (λ d. Ok (d.0, done ++ d.1))
 
-  commands_read : (r : Result Command Reason) → bare ≡ false → r ≡ parsed_command (words code) → behind done (commands_from n (lines xs)) ≡ behind done (then (at_line n r) (λ c. then (commands_from (n + 1) (lines next)) (λ cs. Ok (c ∷ cs))))
-  commands_read r o read =
-      ap (λ (ls : List (List ℕ)). behind done (commands_from n ls)) h.rest
-      ∙ ap (behind done)
-      (commands_line n _ _ (bare_line h o)
-      ∙ ap (λ (s : Result Command Reason). then (at_line n s) (λ c. then (commands_from (n + 1) (lines next)) (λ cs. Ok (c ∷ cs))))
-      (ap (λ (w : List ℕ). parsed_command (words w)) (sym h.line) ∙ sym read))
+pub behind_nil : (r : Result (Terms × List Command) BadLine) → behind [] r ≡ r
+behind_nil (Ok d) = refl
+behind_nil (Err b) = refl
 
-  pub commands_more : (r : Result Command Reason) (c : Command) (all : List Command) → bare ≡ false → r ≡ parsed_command (words code) → Ok c ≡ at_line n r → all ≡ done ++ c ∷ [] → behind done (commands_from n (lines xs)) ≡ behind all (commands_from (n + 1) (lines next))
-  commands_more r c all o read got put =
-      commands_read r o read
-      ∙ ap (λ (s : Result Command BadLine). behind done (then s (λ c. then (commands_from (n + 1) (lines next)) (λ cs. Ok (c ∷ cs))))) (sym got)
-      ∙ behind_more done c (commands_from (n + 1) (lines next))
-      ∙ ap (λ (d : List Command). behind d (commands_from (n + 1) (lines next))) (sym put)
+pub left_blank : (o : Option Terms) (n : ℕ) (l : List ℕ) (ls : List (List ℕ)) → eqb (length (line_words l)) 0 ≡ true → left o n (l ∷ ls) ≡ left o (n + 1) ls
+unfolding day_from commands_from
+left_blank None n l ls e = simp e
+left_blank (Some t) n l ls e = simp e
 
-  pub commands_bad : (r : Result Command Reason) (b : BadLine) → bare ≡ false → r ≡ parsed_command (words code) → Err b ≡ at_line n r → behind done (commands_from n (lines xs)) ≡ Err b
-  commands_bad r b o read got =
-      commands_read r o read
-      ∙ ap (λ (s : Result Command BadLine). behind done (then s (λ c. then (commands_from (n + 1) (lines next)) (λ cs. Ok (c ∷ cs))))) (sym got)
+pub left_terms : (n : ℕ) (l : List ℕ) (ls : List (List ℕ)) → eqb (length (line_words l)) 0 ≡ false → left None n (l ∷ ls) ≡ then (at_line n (parsed_terms (line_words l))) (λ t. left (Some t) (n + 1) ls)
+left_terms n l ls e = day_line n l ls e
 
-pub commands_nil : (done : List Command) (n : ℕ) → behind done (commands_from n (lines [])) ≡ Ok done
+moved : (done : List Command) (t : Terms) (one : Result Command BadLine) (rest : Result (List Command) BadLine) → behind done (then (then one (λ c. then rest (λ cs. Ok (c ∷ cs)))) (λ cs. Ok (t, cs))) ≡ then one (λ c. behind (done ++ c ∷ []) (then rest (λ cs. Ok (t, cs))))
+moved done t (Err b) rest = refl
+moved done t (Ok c) (Err b) = refl
+moved done t (Ok c) (Ok cs) = ap (λ (l : List Command). Ok (t, l)) (sym (append_assoc done (c ∷ []) cs))
+
+pub left_command : (done : List Command) (t : Terms) (n : ℕ) (l : List ℕ) (ls : List (List ℕ)) → eqb (length (line_words l)) 0 ≡ false → behind done (left (Some t) n (l ∷ ls)) ≡ then (at_line n (parsed_command (line_words l))) (λ c. behind (done ++ c ∷ []) (left (Some t) (n + 1) ls))
+left_command done t n l ls e = ap (λ (r : Result (List Command) BadLine). behind done (then r (λ cs. Ok (t, cs)))) (commands_line n l ls e) ∙ moved done t _ _
+
+left_end : (done : List Command) (t : Terms) (n : ℕ) → behind done (left (Some t) n (lines [])) ≡ Ok (t, done)
 unfolding commands_from lines
-commands_nil done n = ap (λ (l : List Command). Ok l) (append-nil done)
+left_end done t n = ap (λ (l : List Command). Ok (t, l)) (append-nil done)
+
+left_none : (done : List Command) (n : ℕ) → behind done (left None n (lines [])) ≡ Err (record { line = n; reason = NoTerms })
+unfolding day_from lines
+left_none done n = refl
+
+-- no line is left
+ended : (done : List Command) (o p : Option Terms) (n : ℕ) (xs : List ℕ) → o ≡ p → length xs ≡ 0 → behind done (left o n (lines xs)) ≡ behind done (left p n (lines []))
+ended done o p n xs same over =
+    ap (λ (q : Option Terms). behind done (left q n (lines xs))) same ∙ ap (λ (l : List ℕ). behind done (left p n (lines l))) (nil_from_length xs over)
+
+pub ended_some : (done : List Command) (o : Option Terms) (n : ℕ) (xs : List ℕ) (t : Terms) → o ≡ Some t → length xs ≡ 0 → behind done (left o n (lines xs)) ≡ Ok (t, done)
+ended_some done o n xs t some over = ended done o (Some t) n xs some over ∙ left_end done t n
+
+pub ended_none : (done : List Command) (o : Option Terms) (n : ℕ) (xs : List ℕ) → o ≡ None → length xs ≡ 0 → behind done (left o n (lines xs)) ≡ Err (record { line = n; reason = NoTerms })
+ended_none done o n xs none over = ended done o None n xs none over ∙ left_none done n
+
+-- a turn of the loop over the lines of xs: the first line with its newline, what follows, and the line's words
+pub record Turn (xs content next : List ℕ) (found : List (List ℕ)) : Type 0 where
+  pub line : lines xs ≡ before_first newline content ∷ lines next
+  pub words : found ≡ line_words (before_first newline content)
+
+module _ {xs content next : List ℕ} {found : List (List ℕ)} (done : List Command) (o : Option Terms) (n : ℕ) (h : Turn xs content next found) where
+  bare_line : (b : Bool) → eqb (length found) 0 ≡ b → eqb (length (line_words (before_first newline content))) 0 ≡ b
+  bare_line b e = ap (λ (ws : List (List ℕ)). eqb (length ws) 0) (sym h.words) ∙ e
+
+  pub turn_blank : (all : List Command) (p : Option Terms) → eqb (length found) 0 ≡ true → all ≡ done → p ≡ o → behind all (left p (n + 1) (lines next)) ≡ behind done (left o n (lines xs))
+  turn_blank all p e same kept =
+      ap (λ (cs : List Command). behind cs (left p (n + 1) (lines next))) same
+      ∙ ap (λ (q : Option Terms). behind done (left q (n + 1) (lines next))) kept
+      ∙ sym (ap (λ (ls : List (List ℕ)). behind done (left o n ls)) h.line ∙ ap (behind done) (left_blank o n _ _ (bare_line true e)))
+
+  module _ (r : Result Terms Reason) (none : o ≡ None) (e : eqb (length found) 0 ≡ false) (read : r ≡ parsed_terms found) where
+    at_terms : behind done (left o n (lines xs)) ≡ behind done (then (at_line n r) (λ t. left (Some t) (n + 1) (lines next)))
+    at_terms =
+        ap (λ (q : Option Terms). behind done (left q n (lines xs))) none
+        ∙ ap (λ (ls : List (List ℕ)). behind done (left None n ls)) h.line
+        ∙ ap (behind done)
+        (left_terms n _ _ (bare_line false e)
+        ∙ ap (λ (s : Result Terms Reason). then (at_line n s) (λ t. left (Some t) (n + 1) (lines next))) (ap parsed_terms (sym h.words) ∙ sym read))
+
+    pub bad_terms : (b : BadLine) → at_line n r ≡ Err b → behind done (left o n (lines xs)) ≡ Err b
+    bad_terms b got = at_terms ∙ ap (λ (s : Result Terms BadLine). behind done (then s (λ t. left (Some t) (n + 1) (lines next)))) got
+
+    pub good_terms : (t : Terms) (all : List Command) (p : Option Terms) → at_line n r ≡ Ok t → all ≡ done → p ≡ Some t → behind all (left p (n + 1) (lines next)) ≡ behind done (left o n (lines xs))
+    good_terms t all p got same now =
+        ap (λ (cs : List Command). behind cs (left p (n + 1) (lines next))) same
+        ∙ ap (λ (q : Option Terms). behind done (left q (n + 1) (lines next))) now
+        ∙ sym (at_terms ∙ ap (λ (s : Result Terms BadLine). behind done (then s (λ t. left (Some t) (n + 1) (lines next)))) got)
+
+  module _ (r : Result Command Reason) (t : Terms) (some : o ≡ Some t) (e : eqb (length found) 0 ≡ false) (read : r ≡ parsed_command found) where
+    at_command : behind done (left o n (lines xs)) ≡ then (at_line n r) (λ c. behind (done ++ c ∷ []) (left (Some t) (n + 1) (lines next)))
+    at_command =
+        ap (λ (q : Option Terms). behind done (left q n (lines xs))) some
+        ∙ ap (λ (ls : List (List ℕ)). behind done (left (Some t) n ls)) h.line
+        ∙ left_command done t n _ _ (bare_line false e)
+        ∙ ap (λ (s : Result Command Reason). then (at_line n s) (λ c. behind (done ++ c ∷ []) (left (Some t) (n + 1) (lines next)))) (ap parsed_command (sym h.words) ∙ sym read)
+
+    pub bad_command : (b : BadLine) → at_line n r ≡ Err b → behind done (left o n (lines xs)) ≡ Err b
+    bad_command b got = at_command ∙ ap (λ (s : Result Command BadLine). then s (λ c. behind (done ++ c ∷ []) (left (Some t) (n + 1) (lines next)))) got
+
+    pub good_command : (c : Command) (all : List Command) (p : Option Terms) → at_line n r ≡ Ok c → all ≡ done ++ c ∷ [] → p ≡ o → behind all (left p (n + 1) (lines next)) ≡ behind done (left o n (lines xs))
+    good_command c all p got put kept =
+        ap (λ (cs : List Command). behind cs (left p (n + 1) (lines next))) put
+        ∙ ap (λ (q : Option Terms). behind (done ++ c ∷ []) (left q (n + 1) (lines next))) (kept ∙ some)
+        ∙ sym (at_command ∙ ap (λ (s : Result Command BadLine). then s (λ c. behind (done ++ c ∷ []) (left (Some t) (n + 1) (lines next)))) got)

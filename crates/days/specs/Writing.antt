@@ -3,6 +3,8 @@ use Rattle.std.specs.Prelude.{ℕ, List, [], ◌∷◌, ◌++◌, codes, decimal
 use Rattle.std.specs.List.{flat_map}
 use Rattle.visit.specs.declared.Terms.{Terms}
 use Rattle.days.specs.declared.BadLine.{BadLine}
+use Rattle.days.specs.declared.ParseError.{ParseError}
+use Rattle.days.specs.declared.ParseError.TheVariants.{Bad, NoMemory}
 use Rattle.days.specs.declared.Reason.{Reason}
 use Rattle.days.specs.declared.Reason.TheVariants.{NoTerms, NoCommand, WrongCount, NotNumber, TooLarge}
 use Rattle.command.specs.declared.Command.{Command}
@@ -18,6 +20,10 @@ reason_text TooLarge = codes "number too large"
 -- `line N: REASON`
 abbrev pub bad_line_text : BadLine → List ℕ
 bad_line_text b = codes "line " ++ (decimal b.line ++ (codes ": " ++ reason_text b.reason))
+
+abbrev pub parse_error_text : ParseError → List ℕ
+parse_error_text (Bad b) = bad_line_text b
+parse_error_text NoMemory = codes "out of memory"
 
 -- Words with single spaces between them.
 abbrev pub spaced : List (List ℕ) → List ℕ

@@ -4,11 +4,12 @@
 #![tactic(auto)]
 
 ghost use Rattle.days.specs.declared.ParseError.TheVariants.{Bad, NoMemory};
-ghost use Rattle.days.specs.Writing.{bad_line_text, reason_text};
+ghost use Rattle.days.specs.Writing.{bad_line_text, parse_error_text, reason_text};
 ghost use Rattle.std.specs.Prelude.{◌≡◌, Some};
 
 use command::Command;
 use std::alloc::{AllocError, AllocFailed};
+use std::error::Error;
 use std::fmt;
 use visit::Terms;
 
@@ -17,7 +18,7 @@ mod words;
 mod writes;
 
 pub use reads::parse;
-pub use writes::{CommandLine, TermsLine, put_command, put_terms};
+pub use writes::{put_command, put_terms};
 
 #[derive(Drop)]
 pub struct Day {
@@ -49,26 +50,17 @@ pub enum ParseError {
     NoMemory,
 }
 
-impl Reason {
-    fn text(self) -> &'static str
-        ensures { result.now ≡ reason_text self }
-    {
-        match self {
+impl fmt::Display for Reason {
+    ghost output = { λ r. Some (reason_text r) };
+
+    fn fmt<W: fmt::Write>(&self, f: &mut fmt::Formatter<W>) -> fmt::Result {
+        f.write_str(match self {
             Reason::NoTerms => "the first line must be terms GAP LATENESS DAY",
             Reason::NoCommand => "expected reading or watermark",
             Reason::WrongCount => "wrong number of words",
             Reason::NotNumber => "not a number",
             Reason::TooLarge => "number too large",
-        }
-    }
-}
-
-impl fmt::Display for Reason {
-    ghost output = { λ r. Some (reason_text r) };
-
-    fn fmt<W: fmt::Write>(&self, f: &mut fmt::Formatter<W>) -> fmt::Result {
-        let text = self.text();
-        write!(f, "{text}")
+        })
     }
 }
 
@@ -76,11 +68,22 @@ impl fmt::Display for BadLine {
     ghost output = { λ b. Some (bad_line_text b) };
 
     fn fmt<W: fmt::Write>(&self, f: &mut fmt::Formatter<W>) -> fmt::Result {
-        let line = self.line;
-        let reason = self.reason;
-        write!(f, "line {line}: {reason}")
+        write!(f, "line {}: {}", self.line, self.reason)
     }
 }
+
+impl fmt::Display for ParseError {
+    ghost output = { λ e. Some (parse_error_text e) };
+
+    fn fmt<W: fmt::Write>(&self, f: &mut fmt::Formatter<W>) -> fmt::Result {
+        match self {
+            ParseError::Bad(line) => write!(f, "{line}"),
+            ParseError::NoMemory => f.write_str("out of memory"),
+        }
+    }
+}
+
+impl Error for ParseError {}
 
 impl From<BadLine> for ParseError {
     ghost from_gives = { λ e r. r ≡ Bad e };

@@ -2,8 +2,7 @@ use Rattle.std.proofs.Common.{ℕ, List, ap, ◌∙◌}
 use Rattle.std.proofs.lemmas.List.{take_rest}
 use Rattle.days.specs.Writing.{day_text, terms_text}
 use Rattle.feed.specs.Files.{commands, unread}
-use Rattle.convert.proofs.Appending.{two_parts}
-use Rattle.convert.proofs.Outcomes.{day_unpacks}
+use Rattle.convert.proofs.Outcomes.{day_unpacks, two_parts}
 use Rattle.convert.proofs.unpacking.unpack.Goals as goal
 
 pub returns : goal.returns

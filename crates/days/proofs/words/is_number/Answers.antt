@@ -1,13 +1,15 @@
-use Rattle.std.proofs.Common.{arith}
+use Rattle.std.proofs.Common.{◌∙◌, arith, rules, tests}
+use Rattle.std.proofs.lemmas.Iterator.{YieldsList-from_slice}
+use Rattle.std.proofs.lemmas.Iterator.Search.{all_from_yields_List}
 use Rattle.std.proofs.lemmas.Bool.Decides.{nat_tests}
-use Rattle.days.proofs.Digits.{digits_end, digits_here, filled_is}
+use Rattle.std.specs.Char.{is_ascii_digit}
+use Rattle.days.proofs.Digits.{digits_all, filled_is}
 use Rattle.days.proofs.words.is_number.Goals as goal
 
-pub returns-then-not-is_ascii_digit : goal.returns-then-not-is_ascii_digit
-returns-then-not-is_ascii_digit c = grind (arith, nat_tests, digits_here)
-
-pub loop-i-preserved : goal.loop-i-preserved
-loop-i-preserved c = grind (arith, nat_tests, digits_here)
-
-pub returns : goal.returns
-returns c = grind (arith, nat_tests, digits_end, filled_is)
+pub returns-then-not-is_empty : goal.returns-then-not-is_empty
+returns-then-not-is_empty c =
+    let word = c.args.word.now in
+    let every = all_from_yields_List is_ascii_digit _ _ _ c.all.ensures.ran (YieldsList-from_slice word cc) (λ x b q k. search (rules, tests)) in
+    let same = every ∙ digits_all word in
+    let some = filled_is word in
+    grind (arith, nat_tests)
