@@ -1,31 +1,13 @@
 -- A table by the rows that it holds.
-use Rattle.std.proofs.Common.{◌≡◌, ℕ, ◌+◌, ◌-◌, ◌*◌, ◌<◌, ◌≤◌, max, List, ◌++◌, length, take, drop, replicate, sym, ap, ◌∙◌, ⊎_elim, suc-mul, add-mul, one-mul, zero-mul, add-one, arith}
-use Rattle.std.proofs.lemmas.List.Edits.{length-between}
+use Rattle.std.proofs.Common.{◌≡◌, ℕ, ◌+◌, ◌-◌, ◌*◌, ◌≤◌, max, List, ◌++◌, length, take, drop, replicate, sym, ap, ◌∙◌, ⊎_elim, add-mul, zero-mul, arith}
 use Rattle.std.proofs.lemmas.List.{append_assoc, drop_at, drop-drop, length-append, length-drop, length-replicate, length-take-le, replicate-append-replicate, take-append-drop}
 use Rattle.std.proofs.lemmas.Bool.{cases_lt}
-use Rattle.std.specs.List.{between, insert, remove}
-use Rattle.rows.specs.Cells.{closed_up}
+use Rattle.std.proofs.lemmas.Grind.{flat_map-append}
+use Rattle.std.specs.List.{between}
 use Rattle.rows.specs.Rows.{Laws, cells_of, holding, rows_in}
 use Rattle.rows.proofs.Copying.{length_cells}
-use Rattle.rows.proofs.Moved.{written_rest}
-use Rattle.rows.proofs.Products.{row_ends, rows_left, rows_rise}
-use Rattle.rows.proofs.Shifted.{rows_inserted, rows_removed}
-use Rattle.rows.proofs.Splits.{cells_of_rows, length_rows, rows_of_cells}
-
--- Behind a row that was put in, and behind rows that have come nearer.
-pub inserted_rest : (a e w : ℕ) (xs zs : List ℕ) → a ≤ e → e + w ≤ length xs → length zs ≡ w
-    → drop (e + w) (take a xs ++ (zs ++ (between a e xs ++ drop (e + w) xs))) ≡ drop (e + w) xs
-inserted_rest a e w xs zs order within long =
-    let moved : length (between a e xs) ≡ e - a = length-between xs a e (omega arith) in
-    let fits : a + length (zs ++ between a e xs) ≡ e + w = rw (length-append zs (between a e xs), long, moved) (omega arith) in
-    rw (sym (append_assoc zs (between a e xs) (drop (e + w) xs))) (written_rest a (e + w) xs (zs ++ between a e xs) (omega arith) fits)
-
-pub removed_rest : (a e w : ℕ) (xs : List ℕ) → a + w ≤ e → e ≤ length xs → drop (e - w) (closed_up a e w xs) ≡ replicate w 0 ++ drop e xs
-removed_rest a e w xs h k =
-    let front : length (take a xs) ≡ a = length-take-le a xs (omega arith) in
-    let middle : length (between (a + w) e xs) ≡ e - (a + w) = length-between xs (a + w) e k in
-    ap (drop (e - w)) (sym (append_assoc (take a xs) (between (a + w) e xs) (replicate w 0 ++ drop e xs)))
-    ∙ drop_at (take a xs ++ between (a + w) e xs) (replicate w 0 ++ drop e xs) (e - w) (omega (arith, length-append (take a xs) (between (a + w) e xs)))
+use Rattle.rows.proofs.Products.{rows_left, rows_rise}
+use Rattle.rows.proofs.Splits.{cells_of_rows, drop_rows, length_rows, rows_of_cells, take_rows}
 
 -- Zeros and what stands behind them, from row k on of those from row j on.
 pub zeros_drop : (w j k most : ℕ) (xs : List ℕ) → j ≤ k → j ≤ most
@@ -48,6 +30,9 @@ zeros_drop w j k most xs h o =
 module _ {R : Type 0} {w : ℕ} {made : List ℕ → R} {cells : R → List ℕ} (laws : Laws w made cells) where
   pub holding_rows : (most : ℕ) (rs : List R) (xs : List ℕ) → rows_in w made (length rs) (holding w cells most rs xs) ≡ rs
   holding_rows most rs xs = rows_of_cells laws rs _
+
+  pub held_rows : (n most : ℕ) (rs : List R) (xs ys : List ℕ) → ys ≡ holding w cells most rs xs → n ≡ length rs → rows_in w made n ys ≡ rs
+  held_rows n most rs xs ys held many = ap (rows_in w made n) held ∙ ap (λ k. rows_in w made k (holding w cells most rs xs)) many ∙ holding_rows most rs xs
 
   pub drop_holding : (k most : ℕ) (rs : List R) (xs : List ℕ) → length rs ≤ k → length rs ≤ most
       → drop (k * w) (holding w cells most rs xs) ≡ replicate ((most - k) * w) 0 ++ drop (max most k * w) xs
@@ -87,7 +72,7 @@ module _ {R : Type 0} {w : ℕ} {made : List ℕ → R} {cells : R → List ℕ}
       ∙ ap (λ l. l ++ drop (n * w) ys) (sym (cells_of_rows laws n ys fits) ∙ ap (cells_of cells) rows)
       ∙ ap (λ l. cells_of cells rs ++ l) (behind ∙ ap (λ k. replicate ((most - k) * w) 0 ++ drop (most * w) xs) many)
 
-  -- The table after a filter, after a row was put in, and after one was taken out.
+  -- The table after a filter.
   module _ (n : ℕ) (xs ys : List ℕ) where
     pub holding_kept : (k : ℕ) (rs : List R) → rows_in w made k ys ≡ rs → k ≤ n → n * w ≤ length ys
         → between (k * w) (n * w) ys ≡ replicate (n * w - k * w) 0 → drop (n * w) ys ≡ drop (n * w) xs → ys ≡ holding w cells n rs xs
@@ -98,23 +83,32 @@ module _ {R : Type 0} {w : ℕ} {made : List ℕ → R} {cells : R → List ℕ}
         ∙ rw (free, drop-drop (n * w - k * w) (k * w) ys, rows_left w k n few) (ap (λ l. replicate (n * w - k * w) 0 ++ l) (ap (λ m. drop m ys) (let e : k * w + (n * w - k * w) ≡ n * w = omega arith in e) ∙ rest)) in
         holding_is k n rs xs ys (omega arith) rows (sym (length_rows w made k ys) ∙ ap length rows) behind
 
-    pub holding_inserted : (at : ℕ) (r : R) → at ≤ n → n * w + w ≤ length xs
-        → ys ≡ take (at * w) xs ++ (cells r ++ (between (at * w) (n * w) xs ++ drop (n * w + w) xs)) → length ys ≡ length xs
-        → ys ≡ holding w cells (n + 1) (insert (rows_in w made n xs) at r) xs
-    holding_inserted at r place room stored long =
-        let next : (n + 1) * w ≡ n * w + w = rw (add-one n) (suc-mul n w) in
-        let rise = rows_rise w at n place in
-        let rows = ap (rows_in w made (n + 1)) stored ∙ rows_inserted laws xs at n r (drop (n * w + w) xs) place (omega arith) in
-        let none : (n + 1 - (n + 1)) * w ≡ 0 = ap (λ k. k * w) (let e : n + 1 - (n + 1) ≡ 0 = omega arith in e) ∙ zero-mul w in
-        holding_is (n + 1) (n + 1) _ xs ys (omega arith) rows (sym (length_rows w made (n + 1) ys) ∙ ap length rows)
-        (rw (none, next) (ap (drop (n * w + w)) stored ∙ inserted_rest (at * w) (n * w) w xs (cells r) rise room (laws.long r)))
-
-    pub holding_removed : (at : ℕ) → at < n → n * w ≤ length xs → ys ≡ closed_up (at * w) (n * w) w xs → length ys ≡ length xs
-        → ys ≡ holding w cells n (remove (rows_in w made n xs) at) xs
-    holding_removed at place room stored long =
-        let ends = row_ends w at n place in
-        let last : (n - 1) * w ≡ n * w - w = rows_left w 1 n (omega arith) ∙ ap (λ k. n * w - k) (one-mul w) in
-        let one : (n - (n - 1)) * w ≡ w = ap (λ k. k * w) (let e : n - (n - 1) ≡ 1 = omega arith in e) ∙ one-mul w in
-        let rows = ap (rows_in w made (n - 1)) stored ∙ rows_removed laws xs at n (replicate w 0 ++ drop (n * w) xs) place room in
-        holding_is (n - 1) n _ xs ys (omega arith) rows (sym (length_rows w made (n - 1) ys) ∙ ap length rows)
-        (rw (one, last) (ap (drop (n * w - w)) stored ∙ removed_rest (at * w) (n * w) w xs ends room))
+  -- The table after rows gave way to others.
+  pub holding_replaced : (n at gone : ℕ) (rs : List R) (xs : List ℕ) → at + gone ≤ n → n * w ≤ length xs
+      → take (at * w) xs ++ (cells_of cells rs ++ (between ((at + gone) * w) (n * w) xs ++ (replicate ((gone - length rs) * w) 0 ++ drop ((n + (length rs - gone)) * w) xs)))
+      ≡ holding w cells (n + (length rs - gone)) (take at (rows_in w made n xs) ++ (rs ++ drop (at + gone) (rows_in w made n xs))) xs
+  holding_replaced n at gone rs xs place fits =
+      let before : at ≤ n = omega arith in
+      let rise = rows_rise w at n before in
+      let left' = rows_left w (at + gone) n place in
+      let start : at * w ≤ length xs = omega arith in
+      let room : (n - (at + gone)) * w ≤ length (drop ((at + gone) * w) xs) = simp length-drop (omega arith) in
+      let front : cells_of cells (take at (rows_in w made n xs)) ≡ take (at * w) xs = ap (cells_of cells) (take_rows w made at n xs before) ∙ cells_of_rows laws at xs start in
+      let back : cells_of cells (drop (at + gone) (rows_in w made n xs)) ≡ between ((at + gone) * w) (n * w) xs =
+      ap (cells_of cells) (drop_rows w made (at + gone) n xs place) ∙ cells_of_rows laws (n - (at + gone)) (drop ((at + gone) * w) xs) room ∙ ap (λ k. take k (drop ((at + gone) * w) xs)) left' in
+      let front_rows : length (take at (rows_in w made n xs)) ≡ at = length-take-le at (rows_in w made n xs) (rw (length_rows w made n xs) before) in
+      let back_rows : length (drop (at + gone) (rows_in w made n xs)) ≡ n - (at + gone) = length-drop (at + gone) (rows_in w made n xs) ∙ ap (λ k. k - (at + gone)) (length_rows w made n xs) in
+      let many : n + (length rs - gone) - (at + (length rs + (n - (at + gone)))) ≡ gone - length rs = omega arith in
+      let z = replicate ((gone - length rs) * w) 0 ++ drop ((n + (length rs - gone)) * w) xs in
+      rw (
+        length-append (take at (rows_in w made n xs)) (rs ++ drop (at + gone) (rows_in w made n xs)),
+        length-append rs (drop (at + gone) (rows_in w made n xs)),
+        front_rows,
+        back_rows,
+        many,
+        flat_map-append cells (take at (rows_in w made n xs)) (rs ++ drop (at + gone) (rows_in w made n xs)),
+        flat_map-append cells rs (drop (at + gone) (rows_in w made n xs)),
+        front,
+        back,
+      )
+      (sym (append_assoc (take (at * w) xs) (cells_of cells rs ++ between ((at + gone) * w) (n * w) xs) z ∙ ap (λ l. take (at * w) xs ++ l) (append_assoc (cells_of cells rs) (between ((at + gone) * w) (n * w) xs) z)))

@@ -1,12 +1,10 @@
 pub mod Products
 pub mod Splits
 pub mod Written
-pub mod Firsts
 pub mod Moved
 pub mod Filtering
-pub mod Closing
-pub mod Shifted
 pub mod Overs
 pub mod Copying
 pub mod Replaced
 pub mod Holding
+pub mod Running

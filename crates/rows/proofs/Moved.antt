@@ -1,10 +1,11 @@
 -- Cells cleared and moved.
-use Rattle.std.proofs.Common.{◌≡◌, ℕ, suc, ◌+◌, ◌-◌, ◌*◌, ◌<◌, ◌≤◌, List, ◌++◌, length, get_or, take, drop, set, replicate, sym, ap, ◌∙◌, arith}
+use Rattle.std.proofs.Common.{◌≡◌, ℕ, ◌+◌, ◌-◌, ◌*◌, ◌≤◌, List, ◌++◌, length, take, drop, replicate, sym, ap, ◌∙◌, arith}
 use borrow.Rule.Slice.PartMut.{put_mid}
-use Rattle.std.specs.List.{between}
-use Rattle.std.proofs.lemmas.List.Edits.{between_none, length-between}
-use Rattle.std.proofs.lemmas.List.{append_assoc, drop_at, drop-drop, drop_more, get_or_append_left, get_or-take, length-append, length-replicate, length-take-le, set_at, take-append-drop, take_at, take_more}
-use Rattle.rows.specs.Cells.{cleared, opened}
+use lib.Seq.{paste}
+use Rattle.std.specs.List.{between, copy_within}
+use Rattle.std.proofs.lemmas.List.Edits.{drop-paste, length-between, take-paste}
+use Rattle.std.proofs.lemmas.List.{append_assoc, drop_at, drop-drop, length-append, length-drop, length-replicate, length-take-le, take_at}
+use Rattle.rows.specs.Cells.{cleared, closed_up}
 use Rattle.rows.specs.Rows.{Laws, rows_in}
 use Rattle.rows.proofs.Splits.{rows_front, rows_taken}
 
@@ -38,29 +39,22 @@ module _ (a e : ℕ) (xs : List ℕ) (order : a ≤ e) (within : e ≤ length xs
       let inside : a ≤ length xs = omega arith in
       rows_front laws m (take a xs) _ (rw (length-take-le a xs inside) h) ∙ rows_taken laws m a xs h inside
 
-pub opened_none : (e w : ℕ) (xs : List ℕ) → xs ≡ opened e e w xs
-opened_none e w xs = sym (ap (λ l. take (e + w) xs ++ (l ++ drop (e + w) xs)) (between_none xs e) ∙ take-append-drop (e + w) xs)
-
-module _ (e w : ℕ) (xs : List ℕ) (i : ℕ) (here : i < e) (within : e + w ≤ length xs) where
-  -- The cell that moves next has not been written yet.
-  pub opened_read : get_or (opened (i + 1) e w xs) i 0 ≡ get_or xs i 0
-  opened_read =
-      let in' : i < length (take (i + 1 + w) xs) = rw (length-take-le (i + 1 + w) xs (omega arith)) (omega arith) in
-      get_or_append_left (take (i + 1 + w) xs) _ 0 i in' ∙ get_or-take (i + 1 + w) xs i 0 (omega arith)
-
-  pub opened_more : set (opened (i + 1) e w xs) (i + w) (get_or xs i 0) ≡ opened i e w xs
-  opened_more =
-      let one_more : i + 1 + w ≡ i + w + 1 = omega arith in
-      let count : e - i ≡ suc (e - (i + 1)) = omega arith in
-      let long : i + w < length xs = omega arith in
-      let inside : i < length xs = omega arith in
-      rw (one_more, take_more xs (i + w) 0 long, append_assoc (take (i + w) xs) _ _, count, drop_more xs i 0 inside)
-      (set_at (take (i + w) xs) _ _ (get_or xs i 0) (i + w) (length-take-le (i + w) xs (omega arith)))
-
-  pub opened_step : (ys : List ℕ) (j : ℕ) → ys ≡ opened j e w xs → j ≡ i + 1 → set ys (i + w) (get_or ys i 0) ≡ opened i e w xs
-  opened_step ys j q p = rw (q, p, opened_read) opened_more
-
 pub cleared_part : (a e : ℕ) (xs : List ℕ) → a ≤ e → e ≤ length xs → (ys : List ℕ) → ys ≡ replicate (length (between a e xs)) 0 → put_mid a (e - a) xs ys ≡ cleared a e xs
 cleared_part a e xs o k ys q =
     let whole : a + (e - a) ≡ e = omega arith in
     rw (q, length-between xs a e k, drop-drop (e - a) a xs, whole)
+
+-- Cells that have come nearer, and what the last ones left is cleared.
+pub closed : (a e w : ℕ) (xs : List ℕ) → a + w ≤ e → e ≤ length xs → (ys : List ℕ) → ys ≡ copy_within xs (a + w) e a → cleared (e - w) e ys ≡ closed_up a e w xs
+closed a e w xs order within ys q =
+    let s = drop (a + w) xs in
+    let count = e - (a + w) in
+    let some : count ≤ length s = simp length-drop (omega arith) in
+    let start : a ≤ length xs = omega arith in
+    let from : e - w ≡ a + count = omega arith in
+    let free : e - (a + count) ≡ w = omega arith in
+    let end : a + count + w ≡ e = omega arith in
+    let behind : drop e (paste xs a s count) ≡ drop e xs =
+    ap (λ k. drop k (paste xs a s count)) (sym end) ∙ sym (drop-drop w (a + count) (paste xs a s count)) ∙ ap (drop w) (drop-paste xs a s count start some) ∙ drop-drop w (a + count) xs ∙ ap (λ k. drop k xs) end in
+    let front : take (a + count) (paste xs a s count) ≡ take a xs ++ between (a + w) e xs = take-paste xs a s count start some in
+    rw (q, from, behind, front, free) (append_assoc (take a xs) (between (a + w) e xs) (replicate w 0 ++ drop e xs))

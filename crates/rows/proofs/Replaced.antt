@@ -1,14 +1,12 @@
 -- Rows that give way to others.
-use Rattle.std.proofs.Common.{◌≡◌, ℕ, ◌+◌, ◌-◌, ◌*◌, ◌≤◌, List, ◌++◌, length, take, drop, replicate, sym, ap, ◌∙◌, add-mul, zero-mul, arith}
-use Rattle.std.specs.List.{between}
+use Rattle.std.proofs.Common.{◌≡◌, ℕ, ◌+◌, ◌-◌, ◌*◌, ◌≤◌, List, [], ◌∷◌, ◌++◌, length, take, drop, replicate, sym, ap, ◌∙◌, add-mul, zero-mul, suc-mul, add-one, add-zero, arith}
+use Rattle.std.specs.List.{between, insert}
 use Rattle.std.proofs.lemmas.List.Edits.{split_between}
-use Rattle.std.proofs.lemmas.List.{drop_at, length-take-le, take-append-le, take-take}
+use Rattle.std.proofs.lemmas.List.{append-nil, drop_at, length-take-le, take-append-le, take-take}
 use Rattle.rows.specs.Cells.{closed_up, opened, shifted}
-use Rattle.rows.specs.Rows.{Laws, cells_of, rows_in}
-use Rattle.rows.proofs.Copying.{length_cells}
+use Rattle.rows.specs.Rows.{Laws, cells_of, holding, rows_in}
+use Rattle.rows.proofs.Holding.{holding_replaced}
 use Rattle.rows.proofs.Products.{rows_rise}
-use Rattle.rows.proofs.Shifted.{rows_between}
-use Rattle.rows.proofs.Splits.{rows_append, rows_of_cells, rows_split, rows_taken, take_rows}
 
 -- A place and the cells behind it up to another.
 pub rows_from : (w m n : ℕ) → m ≤ n → m * w + (n - m) * w ≡ n * w
@@ -47,24 +45,28 @@ front_written a b xs ys zs q h k e =
     let inside : a ≤ length (take b xs) = rw long h in
     rw (e, take-append-le a (take b xs) q inside, take-take a b xs h, drop_at (take b xs) q b long)
 
-module _ {R : Type 0} {w : ℕ} {made : List ℕ → R} {cells : R → List ℕ} (laws : Laws w made cells) where
-  pub rows_replaced : (at gone n : ℕ) (rs : List R) (xs q : List ℕ) → at + gone ≤ n → n * w ≤ length xs
-      → rows_in w made (n - gone + length rs) (take (at * w) xs ++ (cells_of cells rs ++ (between ((at + gone) * w) (n * w) xs ++ q)))
-      ≡ take at (rows_in w made n xs) ++ (rs ++ drop (at + gone) (rows_in w made n xs))
-  rows_replaced at gone n rs xs q h k =
-      let before : at ≤ n = omega arith in
-      let rise = rows_rise w at n before in
-      let start : at * w ≤ length xs = omega arith in
-      let same : at * w ≤ at * w = omega arith in
-      let whole : n - gone + length rs ≡ at + (length rs + (n - (at + gone))) = omega arith in
-      let z = between ((at + gone) * w) (n * w) xs ++ q in
-      let middle : rows_in w made (length rs + (n - (at + gone))) (cells_of cells rs ++ z) ≡ rs ++ drop (at + gone) (rows_in w made n xs) =
-      rows_split w made (length rs) (n - (at + gone)) (cells_of cells rs ++ z)
-      ∙ rw (rows_of_cells laws rs z, drop_at (cells_of cells rs) z (length rs * w) (length_cells laws rs)) (ap (λ l. rs ++ l) (rows_between laws xs (at + gone) n q h k)) in
-      rw (
-        whole,
-        rows_append laws at (length rs + (n - (at + gone))) (take (at * w) xs) (cells_of cells rs ++ z) (length-take-le (at * w) xs start),
-        rows_taken laws at (at * w) xs same start,
-        middle,
-        take_rows w made at n xs before,
-      )
+module _ {R : Type 0} {w : ℕ} {made : List ℕ → R} {cells : R → List ℕ} (laws : Laws w made cells) (n at : ℕ) (xs ys zs : List ℕ) where
+  -- The rows behind make room or come nearer, and rows are written.
+  pub held_replaced : (gone : ℕ) (rs : List R) → at + gone ≤ n → (n + (length rs - gone)) * w ≤ length xs → ys ≡ shifted w n (at + gone) (at + length rs) xs
+      → zs ≡ take (at * w) ys ++ (cells_of cells rs ++ drop ((at + length rs) * w) ys)
+      → zs ≡ holding w cells (n + (length rs - gone)) (take at (rows_in w made n xs) ++ (rs ++ drop (at + gone) (rows_in w made n xs))) xs
+  held_replaced gone rs place room moved stored =
+      let k = length rs in
+      let most = n + (k - gone) in
+      let behind = between ((at + gone) * w) (n * w) xs ++ (replicate ((gone - k) * w) 0 ++ drop (most * w) xs) in
+      let order : at * w ≤ (at + k) * w = rows_rise w at (at + k) (omega arith) in
+      let inside : (at + k) * w ≤ most * w = rows_rise w (at + k) most (omega arith) in
+      let whole : n * w ≤ most * w = rows_rise w n most (omega arith) in
+      stored
+      ∙ front_written (at * w) ((at + k) * w) xs ys (cells_of cells rs) behind order (omega arith) (moved ∙ shifted_by w n at gone k xs)
+      ∙ holding_replaced laws n at gone rs xs place (omega arith)
+
+  pub held_inserted : (r : R) → at ≤ n → n * w + w ≤ length xs → ys ≡ shifted w n at (at + 1) xs → zs ≡ take (at * w) ys ++ (cells r ++ drop (at * w + w) ys)
+      → zs ≡ holding w cells (n + 1) (insert (rows_in w made n xs) at r) xs
+  held_inserted r place room moved stored =
+      let next : (at + 1) * w ≡ at * w + w = rw (add-one at) (suc-mul at w) in
+      let most : (n + 1) * w ≤ length xs = rw (add-one n, suc-mul n w) room in
+      let none : at + 0 ≡ at = add-zero at in
+      rw none at (held_replaced 0 (r ∷ []))
+      place most moved
+      (stored ∙ ap (λ l. take (at * w) ys ++ (l ++ drop (at * w + w) ys)) (sym (append-nil (cells r))) ∙ ap (λ m. take (at * w) ys ++ (cells_of cells (r ∷ []) ++ drop m ys)) (sym next))

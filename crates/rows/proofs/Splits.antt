@@ -9,6 +9,12 @@ module _ {R : Type 0} (w : ℕ) (f : List ℕ → R) where
   length_rows zero xs = refl
   length_rows (suc n) xs = ap suc (length_rows n (drop w xs))
 
+  pub rows_first : (n : ℕ) (xs : List ℕ) → 0 < n → rows_in w f n xs ≡ f xs ∷ rows_in w f (n - 1) (drop w xs)
+  rows_first zero xs h = absurd (omega arith)
+  rows_first (suc n) xs h =
+      let one : suc n - 1 ≡ n = omega arith in
+      rw one
+
   -- The rows behind one row begin where it ends.
   pub drop_row : (m : ℕ) (xs : List ℕ) → drop (m * w) (drop w xs) ≡ drop (suc m * w) xs
   drop_row m xs = rw (drop-drop (m * w) w xs, suc-mul m w, add_comm w (m * w))

@@ -3,6 +3,8 @@ pub mod Cells
 pub mod Fields
 pub mod Limits
 pub mod Tests
+pub mod Tables
 pub mod Visits
 pub mod Readings
 pub mod Lines
+pub mod Out

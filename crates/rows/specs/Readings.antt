@@ -4,7 +4,7 @@ use Rattle.std.proofs.Common.{arith}
 use Rattle.visit.specs.declared.Reading.{Reading}
 use Rattle.rows.specs.Fields.{fields_taken}
 use Rattle.rows.specs.Limits.{time_limit}
-use Rattle.rows.specs.Rows.{Laws}
+use Rattle.rows.specs.Rows.{Laws, holding, rows_in}
 
 abbrev pub reading_width : ℕ
 reading_width = 4
@@ -18,6 +18,13 @@ reading_cells e = e.card ∷ e.time ∷ e.serial ∷ e.amount ∷ []
 -- Card, serial and amount have no limit here.
 abbrev pub reading_limits : List (Option ℕ)
 reading_limits = None ∷ Some time_limit ∷ None ∷ None ∷ []
+
+-- The first n rows of a table as readings, and the numbers of a table that held xs and now holds these readings.
+abbrev pub readings_in : ℕ → List ℕ → List Reading
+readings_in n xs = rows_in reading_width reading_made n xs
+
+abbrev pub readings_held : ℕ → List Reading → List ℕ → List ℕ
+readings_held most es xs = holding reading_width reading_cells most es xs
 
 pub reading_limited : length reading_limits ≡ reading_width
 reading_limited = refl

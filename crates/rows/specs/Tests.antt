@@ -1,7 +1,6 @@
--- The first element that passes a test.
-use Rattle.std.specs.Prelude.{ℕ, ◌+◌, Bool, cond, List, [], ◌∷◌}
+-- Tests on elements.
+use Rattle.std.specs.Prelude.{◌≡◌, Bool}
 
--- Its place, or the length of the list where none passes.
-abbrev pub first_of : {X : Type 0} → (X → Bool) → List X → ℕ
-first_of p [] = 0
-first_of p (x ∷ xs) = cond (p x) 0 (1 + first_of p xs)
+-- Each answer that `answered` allows is that of p.
+abbrev pub Answers : {X : Type 0} → (X → Bool → Type 0) → (X → Bool) → Type 0
+Answers {X = X} answered p = (x : X) (b : Bool) → answered x b → b ≡ p x

@@ -4,7 +4,7 @@ use Rattle.std.proofs.Common.{arith}
 use Rattle.visit.specs.declared.Visit.{Visit}
 use Rattle.rows.specs.Fields.{fields_taken}
 use Rattle.rows.specs.Limits.{count_limit, sum_limit, time_limit}
-use Rattle.rows.specs.Rows.{Laws}
+use Rattle.rows.specs.Rows.{Laws, holding, rows_in}
 
 abbrev pub visit_width : ℕ
 visit_width = 5
@@ -18,6 +18,13 @@ visit_cells v = v.card ∷ v.from ∷ v.to ∷ v.count ∷ v.sum ∷ []
 -- A card has no limit here.
 abbrev pub visit_limits : List (Option ℕ)
 visit_limits = None ∷ Some time_limit ∷ Some time_limit ∷ Some count_limit ∷ Some sum_limit ∷ []
+
+-- The first n rows of a table as visits, and the numbers of a table that held xs and now holds these visits.
+abbrev pub visits_in : ℕ → List ℕ → List Visit
+visits_in n xs = rows_in visit_width visit_made n xs
+
+abbrev pub visits_held : ℕ → List Visit → List ℕ → List ℕ
+visits_held most vs xs = holding visit_width visit_cells most vs xs
 
 pub visit_limited : length visit_limits ≡ visit_width
 visit_limited = refl

@@ -3,11 +3,11 @@
 
 pub mod access;
 pub mod cells;
-pub mod change;
-pub mod choose;
+pub mod iter;
 pub mod limits;
 pub mod lines;
+pub mod out;
 pub mod readings;
 pub mod row;
-pub mod test;
+pub mod table;
 pub mod visits;

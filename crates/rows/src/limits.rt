@@ -1,10 +1,6 @@
-// The limits that times, counts and sums stay below, and the first cell of a table that does not.
-ghost use Rattle.std.specs.Prelude.{◌≡◌, ◌*◌, ◌≤◌, length};
+// The limits that times, counts and sums stay below, and the first number that does not.
+ghost use Rattle.std.specs.Prelude.{◌≡◌};
 ghost use Rattle.rows.specs.Limits.{first_over};
-ghost use Rattle.std.specs.List.{repeat};
-
-use crate::access::row_at;
-use crate::row::Row;
 
 pub const TIME_LIMIT: u64 = 1 << 40;
 
@@ -12,16 +8,12 @@ pub const COUNT_LIMIT: u64 = 1 << 40;
 
 pub const SUM_LIMIT: u64 = 1 << 52;
 
-pub fn first_over<R: Row>(table: &[u64], n: usize) -> Option<usize>
-    requires { n * R.width ≤ length table.now }
-    ensures { result ≡ first_over 0 (repeat n R.limits) table.now }
+// The place of the first number that is not below its limit.
+pub fn over(cells: &[u64], limits: &[Option<u64>]) -> Option<usize>
+    ensures { result ≡ first_over 0 limits.now cells.now }
 {
-    let w = R::width();
-    for i in 0..n {
-        let row: R = row_at(table, i);
-        if let Some(cell) = row.over() {
-            return Some(i * w + cell);
-        }
-    }
-    None
+    cells
+        .iter()
+        .zip(limits)
+        .position(|(cell, limit)| limit.is_some_and(|most| *cell >= most))
 }

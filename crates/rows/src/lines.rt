@@ -8,7 +8,9 @@ use visit::Line;
 pub const LINE_WIDTH: usize = 4;
 
 impl Row for Line {
-    ghost width = { line_width };
+    const WIDTH: usize = LINE_WIDTH;
+
+    ghost WIDTH = { line_width };
 
     ghost made = { line_made };
 
@@ -19,10 +21,6 @@ impl Row for Line {
     ghost laws = { line_laws };
 
     ghost limited = { line_limited };
-
-    fn width() -> usize {
-        LINE_WIDTH
-    }
 
     fn read(source: &[u64]) -> Line {
         Line {
@@ -37,13 +35,7 @@ impl Row for Line {
         target.copy_from_slice(&[self.card, self.day, self.visits, self.sum]);
     }
 
-    fn over(self) -> Option<usize> {
-        if self.visits >= COUNT_LIMIT {
-            return Some(2);
-        }
-        if self.sum >= SUM_LIMIT {
-            return Some(3);
-        }
-        None
+    fn limits() -> &'static [Option<u64>] {
+        &[None, None, Some(COUNT_LIMIT), Some(SUM_LIMIT)]
     }
 }

@@ -8,7 +8,9 @@ use visit::Reading;
 pub const READING_WIDTH: usize = 4;
 
 impl Row for Reading {
-    ghost width = { reading_width };
+    const WIDTH: usize = READING_WIDTH;
+
+    ghost WIDTH = { reading_width };
 
     ghost made = { reading_made };
 
@@ -19,10 +21,6 @@ impl Row for Reading {
     ghost laws = { reading_laws };
 
     ghost limited = { reading_limited };
-
-    fn width() -> usize {
-        READING_WIDTH
-    }
 
     fn read(source: &[u64]) -> Reading {
         Reading {
@@ -37,10 +35,7 @@ impl Row for Reading {
         target.copy_from_slice(&[self.card, self.time, self.serial, self.amount]);
     }
 
-    fn over(self) -> Option<usize> {
-        if self.time >= TIME_LIMIT {
-            return Some(1);
-        }
-        None
+    fn limits() -> &'static [Option<u64>] {
+        &[None, Some(TIME_LIMIT), None, None]
     }
 }

@@ -1,10 +1,11 @@
 // What stands in a table as a row of a fixed number of numbers.
 ghost use Rattle.std.specs.Prelude.{◌≡◌, ℕ, ◌≤◌, List, length, Option};
-ghost use Rattle.rows.specs.Limits.{first_over};
 ghost use Rattle.rows.specs.Rows.{Laws};
 
 pub trait Row: Copy {
-    ghost width: { ℕ };
+    const WIDTH: usize;
+
+    ghost WIDTH: { ℕ };
 
     ghost made: { List ℕ → Self };
 
@@ -14,22 +15,18 @@ pub trait Row: Copy {
     ghost limits: { List (Option ℕ) };
 
     // What each `impl` has to prove.
-    ghost laws: { Laws width made cells };
+    ghost laws: { Laws WIDTH made cells };
 
-    ghost limited: { length limits ≡ width };
-
-    fn width() -> usize
-        ensures { result ≡ width };
+    ghost limited: { length limits ≡ WIDTH };
 
     fn read(source: &[u64]) -> Self
-        requires { width ≤ length source.now }
+        requires { WIDTH ≤ length source.now }
         ensures { result ≡ made source.now };
 
     fn write(self, target: &mut [u64])
-        requires { length target.old ≡ width }
+        requires { length target.old ≡ WIDTH }
         ensures { target.new ≡ cells self };
 
-    // The place in the row of the first number that is not below its limit.
-    fn over(self) -> Option<usize>
-        ensures { result ≡ first_over 0 limits (cells self) };
+    fn limits() -> &'static [Option<u64>]
+        ensures { result.now ≡ limits };
 }

@@ -8,7 +8,9 @@ use visit::Visit;
 pub const VISIT_WIDTH: usize = 5;
 
 impl Row for Visit {
-    ghost width = { visit_width };
+    const WIDTH: usize = VISIT_WIDTH;
+
+    ghost WIDTH = { visit_width };
 
     ghost made = { visit_made };
 
@@ -19,10 +21,6 @@ impl Row for Visit {
     ghost laws = { visit_laws };
 
     ghost limited = { visit_limited };
-
-    fn width() -> usize {
-        VISIT_WIDTH
-    }
 
     fn read(source: &[u64]) -> Visit {
         Visit {
@@ -38,19 +36,13 @@ impl Row for Visit {
         target.copy_from_slice(&[self.card, self.from, self.to, self.count, self.sum]);
     }
 
-    fn over(self) -> Option<usize> {
-        if self.from >= TIME_LIMIT {
-            return Some(1);
-        }
-        if self.to >= TIME_LIMIT {
-            return Some(2);
-        }
-        if self.count >= COUNT_LIMIT {
-            return Some(3);
-        }
-        if self.sum >= SUM_LIMIT {
-            return Some(4);
-        }
-        None
+    fn limits() -> &'static [Option<u64>] {
+        &[
+            None,
+            Some(TIME_LIMIT),
+            Some(TIME_LIMIT),
+            Some(COUNT_LIMIT),
+            Some(SUM_LIMIT),
+        ]
     }
 }
