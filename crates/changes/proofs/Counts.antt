@@ -17,12 +17,13 @@ use Rattle.rows.specs.Visits.{visit_cells, visit_laws, visit_width}
 use Rattle.rows.proofs.Copying.{length_cells}
 use Rattle.live.specs.Walk.{became, left_over, taken_in}
 use Rattle.changes.specs.Changed.{closed_besides, merging, rise}
-use Rattle.changes.specs.Out.{change_row, head_width}
+use Rattle.rows.specs.Out.{out_head}
+use Rattle.changes.specs.Out.{change_row}
 use Rattle.changes.specs.Room.{OutSuffices}
 use Rattle.changes.proofs.Differences.{only_newly_closed}
 use Rattle.changes.proofs.Merging.{added_by}
 
-pub length_change_row : (gone new : List Visit) → length (change_row gone new) ≡ head_width + (length gone + length new) * visit_width
+pub length_change_row : (gone new : List Visit) → length (change_row gone new) ≡ out_head + (length gone + length new) * visit_width
 length_change_row gone new =
     omega (arith, length-append (cells_of visit_cells gone) (cells_of visit_cells new), length_cells visit_laws gone, length_cells visit_laws new)
 

@@ -2,12 +2,9 @@
 use Rattle.std.specs.Prelude.{ℕ, ◌+◌, ◌*◌, List, [], ◌∷◌, ◌++◌, length, take, drop}
 use Rattle.visit.specs.declared.Visit.{Visit}
 use Rattle.command.specs.Outcomes.{Outcome, changed, refused}
+use Rattle.rows.specs.Out.{out_head}
 use Rattle.rows.specs.Rows.{cells_of}
 use Rattle.rows.specs.Visits.{visit_cells, visit_width}
-
--- The two counts in front.
-abbrev pub head_width : ℕ
-head_width = 2
 
 abbrev pub change_row : List Visit → List Visit → List ℕ
 change_row gone new = length gone ∷ length new ∷ (cells_of visit_cells gone ++ cells_of visit_cells new)
@@ -28,4 +25,4 @@ overlay row out = row ++ drop (length row) out
 -- `out` with its counts, where k visits retracted stand in it and the ones added are put behind them.
 abbrev pub with_added : ℕ → List Visit → List ℕ → List ℕ
 with_added k new out =
-    k ∷ length new ∷ (take (k * visit_width) (drop head_width out) ++ (cells_of visit_cells new ++ drop ((k + length new) * visit_width) (drop head_width out)))
+    k ∷ length new ∷ (take (k * visit_width) (drop out_head out) ++ (cells_of visit_cells new ++ drop ((k + length new) * visit_width) (drop out_head out)))

@@ -7,7 +7,8 @@ use Rattle.command.specs.declared.Command.TheVariants.{Reading as AReading, Wate
 use Rattle.command.specs.Outcomes.{changed}
 use Rattle.rows.specs.Visits.{visit_width}
 use Rattle.model.specs.Store.{Store, store_outcome}
-use Rattle.changes.specs.Out.{change_row, head_width}
+use Rattle.rows.specs.Out.{out_head}
+use Rattle.changes.specs.Out.{change_row}
 
 -- A store has room for so many live visits.
 abbrev pub live_most : ℕ
@@ -22,7 +23,7 @@ abbrev pub out_visits : ℕ
 out_visits = near_most + live_most
 
 abbrev pub out_width : ℕ
-out_width = head_width + out_visits * visit_width
+out_width = out_head + out_visits * visit_width
 
 -- The most that a command retracts and adds among n live visits, whatever they are.
 abbrev pub most_retracted : Command → ℕ → ℕ

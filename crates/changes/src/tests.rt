@@ -4,14 +4,22 @@ use crate::out::width;
 use crate::reading::by_reading;
 use crate::watermark::by_watermark;
 use live::merging::Placed;
+use rows::table::Rows;
 use std::process::Abort;
-use visit::{Terms, Visit};
+use visit::{Clock, Terms, Visit};
 
 const TERMS: Terms = Terms {
     gap: 10,
     lateness: 30,
     day: 100,
 };
+
+fn clock_at(watermark: u64) -> Clock {
+    Clock {
+        terms: TERMS,
+        watermark,
+    }
+}
 
 // Card, first and last time, count, sum.
 fn visit(card: u64, from: u64, to: u64, count: u64, sum: u64) -> Visit {
@@ -149,22 +157,23 @@ const CASES: [(&str, &[u64], By, &[u64]); 18] = [
 ];
 
 fn written(rt: &impl Abort, rows: &[u64], by: By) -> [u64; OUT] {
-    let n = rows.len() / 5;
-    assert!(rt; n <= 3);
+    let rows = Rows::new(rows, rows.len() / 5);
+    assert!(rt; rows.len <= 3);
     let mut out = OLD;
     let many = match by {
         By::Watermark(from, to) => {
-            assert!(rt; from <= to);
-            by_watermark(rows, n, TERMS, from, to, &mut out)
+            let clock = clock_at(from);
+            assert!(rt; clock.watermark <= to);
+            by_watermark(rows, clock, to, &mut out)
         }
         By::Reading(others, (card, from, to, count, sum), watermark) => {
-            assert!(rt; others <= n);
+            assert!(rt; others <= rows.len);
             let placed = Placed {
                 visit: visit(card, from, to, count, sum),
                 at: 0,
                 others,
             };
-            by_reading(rows, n, placed, TERMS, watermark, &mut out)
+            by_reading(rows, placed, clock_at(watermark), &mut out)
         }
     };
     assert_eq!(rt; many as u64, out[0].wrapping_add(out[1]));
@@ -196,12 +205,12 @@ fn changes(rt: HostRuntime) {
 fn apart(rt: HostRuntime) {
     let near = [visit(1, 5, 20, 3, 6), visit(1, 33, 33, 1, 4)];
     let mut out = OLD;
-    let many = by_reading_apart(&near, visit(1, 5, 33, 5, 15), TERMS, 40, &mut out);
+    let many = by_reading_apart(&near, visit(1, 5, 33, 5, 15), clock_at(40), &mut out);
     let mut after = OLD;
     after[0..7].copy_from_slice(&[1, 0, 1, 5, 20, 3, 6]);
     assert_eq!(rt; many, 1);
     assert_eq!(rt; out, after, "it becomes an open one");
-    let many = by_reading_apart(&near, visit(1, 5, 33, 5, 15), TERMS, 44, &mut out);
+    let many = by_reading_apart(&near, visit(1, 5, 33, 5, 15), clock_at(44), &mut out);
     after[0..17].copy_from_slice(&[2, 1, 1, 5, 20, 3, 6, 1, 33, 33, 1, 4, 1, 5, 33, 5, 15]);
     assert_eq!(rt; many, 3);
     assert_eq!(rt; out, after, "it becomes a closed one");

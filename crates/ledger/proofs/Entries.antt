@@ -1,6 +1,6 @@
--- A line put to a ledger or taken from it, as the code does it at the place that it found, and how many lines there are then.
-use Rattle.std.proofs.Common.{◌≡◌, ℕ, suc, ◌+◌, ◌<◌, ◌≤◌, true, false, cond, not, eqb, List, [], ◌∷◌, ◌++◌, length, get_or, take, drop, set, sym, refl, ap, ◌∙◌, arith, drop-cons}
-use Rattle.std.specs.List.{insert, remove}
+-- A line put to a ledger or taken from it, as the code does it at the place that it found.
+use Rattle.std.proofs.Common.{◌≡◌, ℕ, suc, ◌+◌, ◌<◌, ◌≤◌, true, false, cond, eqb, List, [], ◌∷◌, ◌++◌, length, get_or, take, drop, set, sym, refl, ap, ◌∙◌, arith, drop-cons}
+use Rattle.std.specs.List.{insert, position_or_len, prefix_len, remove}
 use Rattle.std.proofs.lemmas.List.{append-nil, drop_all, set_split, take_all}
 use Rattle.std.proofs.lemmas.Bool.{eq-eqb, ne_eqb}
 use Rattle.visit.specs.declared.Line.{Line}
@@ -8,15 +8,14 @@ use Rattle.visit.specs.declared.Terms.{Terms}
 use Rattle.visit.specs.Lines.{line_before, line_minus, line_plus, same_key}
 use Rattle.model.specs.Ledger.{add_here, add_line, take_line}
 use Rattle.model.proofs.Common.{split}
-use Rattle.rows.specs.Tests.{first_of}
-use Rattle.ledger.proofs.Firsts.{first_placed}
+use Rattle.model.proofs.Places.{at_place_is}
 
--- The first line that is not before l, and the first of its key.
+-- How many lines are before l, and the first of its key.
 abbrev pub add_place : Terms → Line → List Line → ℕ
-add_place t l xs = first_of (λ x. not (line_before t x l)) xs
+add_place t l xs = prefix_len (λ x. line_before t x l) xs
 
 abbrev pub take_place : Terms → Line → List Line → ℕ
-take_place t l xs = first_of (λ x. same_key t x l) xs
+take_place t l xs = position_or_len (λ x. same_key t x l) xs
 
 -- What becomes of the lines from the first of the key on.
 abbrev take_here : Line → List Line → List Line
@@ -33,7 +32,7 @@ take_placed t l (x ∷ xs) =
 
 module _ (t : Terms) (l : Line) (xs : List Line) (i : ℕ) where
   pub add_last : i ≡ add_place t l xs → length xs ≤ i → add_line t l xs ≡ insert xs i l
-  add_last at h = first_placed (λ x. line_before t x l) (add_here t l) xs ∙ rw (sym at, drop_all i xs h)
+  add_last at h = at_place_is (λ x. line_before t x l) (add_here t l) xs ∙ rw (sym at, drop_all i xs h)
 
   pub take_none : i ≡ take_place t l xs → length xs ≤ i → take_line t l xs ≡ xs
   take_none at h = take_placed t l xs ∙ rw (sym at, drop_all i xs h) (append-nil (take i xs) ∙ take_all i xs h)
@@ -43,10 +42,10 @@ module _ (t : Terms) (l : Line) (xs : List Line) (i : ℕ) where
     here = drop-cons xs i x h ∙ ap (λ y. y ∷ drop (suc i) xs) (sym e)
 
     pub add_to : i ≡ add_place t l xs → same_key t x l ≡ true → add_line t l xs ≡ set xs i (line_plus x l)
-    add_to at q = first_placed (λ y. line_before t y l) (add_here t l) xs ∙ rw (sym at, here, set_split xs i (line_plus x l) h) (simp q)
+    add_to at q = at_place_is (λ y. line_before t y l) (add_here t l) xs ∙ rw (sym at, here, set_split xs i (line_plus x l) h) (simp q)
 
     pub add_between : i ≡ add_place t l xs → same_key t x l ≡ false → add_line t l xs ≡ insert xs i l
-    add_between at q = first_placed (λ y. line_before t y l) (add_here t l) xs ∙ rw (sym at, here) (simp q)
+    add_between at q = at_place_is (λ y. line_before t y l) (add_here t l) xs ∙ rw (sym at, here) (simp q)
 
     pub take_gone : i ≡ take_place t l xs → x.visits ≡ l.visits → take_line t l xs ≡ remove xs i
     take_gone at q = take_placed t l xs ∙ rw (sym at, here, eq-eqb x.visits l.visits q)

@@ -1,5 +1,5 @@
 -- Sums that fit in 64 bits stay so as lines are put to a ledger and taken from it.
-use Rattle.std.proofs.Common.{ℕ, ◌+◌, ◌≤◌, true, false, cond, eqb, List, [], ◌∷◌, length, arith}
+use Rattle.std.proofs.Common.{◌≡◌, ℕ, ◌+◌, ◌≤◌, true, false, cond, eqb, List, [], ◌∷◌, length, arith}
 use Rattle.std.specs.List.{AllByRecursion}
 use Rattle.std.proofs.ByRecursion.{All-weaker}
 use Rattle.std.proofs.lemmas.List.Sums.{sum_by-cons}
@@ -7,8 +7,9 @@ use Rattle.visit.specs.declared.Line.{Line}
 use Rattle.visit.specs.declared.Terms.{Terms}
 use Rattle.visit.specs.declared.Visit.{Visit}
 use Rattle.visit.specs.Lines.{line_before, line_minus, line_of, line_plus, same_key}
-use Rattle.model.specs.Ledger.{add_line, add_visits, take_line, take_visits}
-use Rattle.ledger.specs.Fits.{Fits, FitsIn, sums}
+use Rattle.model.specs.Ledger.{add_line, take_line, take_visits}
+use Rattle.visit.specs.Sums.{sums}
+use Rattle.ledger.specs.Fits.{Fits, FitsIn}
 
 -- What fits leaves room for less.
 pub fits_less : (k s j r : ℕ) (ls : List Line) → j ≤ k → r ≤ s → Fits k s ls → Fits j r ls
@@ -40,13 +41,16 @@ fits_added t l k s ls f =
           (λ x p. (omega (arith, p.0), omega (arith, p.1))) (λ x p. (omega (arith, p.0), omega (arith, p.1))) (f.visits, f.sum) ls f.lines;
     }
 
-pub fits_visits_added : (t : Terms) (vs : List Visit) (k s : ℕ) (ls : List Line) → Fits (length vs + k) (sums vs + s) ls → Fits k s (add_visits t vs ls)
-unfolding line_of
-fits_visits_added t [] k s ls f = fits_less (0 + k) (0 + s) k s ls (omega arith) (omega arith) f
-fits_visits_added t (v ∷ vs) k s ls f =
-    fits_visits_added t vs k s (add_line t (line_of t v) ls)
-    (fits_added t (line_of t v) (length vs + k) (sums vs + s) ls
-    (fits_less _ _ _ _ ls (omega arith) (omega (arith, sum_by-cons (λ (u : Visit). u.sum) v vs)) f))
+-- Where visits fit, so does a line of the first one, and behind it the others.
+module _ (t : Terms) (v : Visit) (vs : List Visit) (ls : List Line) (f : Fits (length (v ∷ vs)) (sums (v ∷ vs)) ls) where
+  pub fits_first : (l : Line) → l.visits ≡ 1 → l.sum ≡ v.sum → Fits l.visits l.sum ls
+  fits_first l one same = fits_less _ _ _ _ ls (omega arith) (omega (arith, sum_by-cons (λ (u : Visit). u.sum) v vs)) f
+
+  pub fits_rest : Fits (length vs) (sums vs) (add_line t (line_of t v) ls)
+  unfolding line_of
+  fits_rest =
+      fits_added t (line_of t v) (length vs) (sums vs) ls
+      (fits_less _ _ _ _ ls (omega arith) (omega (arith, sum_by-cons (λ (u : Visit). u.sum) v vs)) f)
 
 -- A line taken from the ledger leaves lines that are no larger.
 take_all : (P : Line → Type 0) (t : Terms) (l : Line) → ((x : Line) → P x → P (line_minus x l)) → (xs : List Line) → AllByRecursion P xs → AllByRecursion P (take_line t l xs)

@@ -1,49 +1,40 @@
--- A table by the rows that it holds: nothing changed, one row written over, one change after another.
+-- The cells of a table by its rows: nothing changed, one row written over, one change after another.
 use Rattle.std.proofs.Common.{◌≡◌, ℕ, ◌+◌, ◌-◌, ◌*◌, ◌<◌, ◌≤◌, max, List, ◌++◌, length, take, drop, set, sym, refl, ap, ◌∙◌, zero-mul, arith}
 use Rattle.std.proofs.lemmas.List.{length-set}
-use Rattle.rows.specs.Rows.{Laws, holding, rows_in}
-use Rattle.rows.proofs.Holding.{holding_again, holding_is, holding_rows}
+use Rattle.rows.specs.declared.row.Row.{Ghosts}
+use Rattle.rows.specs.declared.table.Table.{Table}
+use Rattle.rows.specs.Rows.{holding}
+use Rattle.rows.specs.Tables.{filled, rows_of}
+use Rattle.rows.proofs.Holding.{holding_again, holding_is, length_holding}
 use Rattle.rows.proofs.Moved.{written_past}
 use Rattle.rows.proofs.Products.{row_ends}
 use Rattle.rows.proofs.Splits.{length_rows}
 
--- A table that held xs and is now ys, with c rows: these are rs, and at most `most` rows have been touched.
-pub record Held {R : Type 0} (w : ℕ) (cells : R → List ℕ) (most : ℕ) (rs : List R) (xs ys : List ℕ) (c : ℕ) : Type 0 where
-  pub many : c ≡ length rs
-  pub table : ys ≡ holding w cells most rs xs
+none_free : (w n m : ℕ) → n ≡ m → (m - n) * w ≡ 0
+none_free w n m e = ap (λ k. k * w) (let z : m - n ≡ 0 = omega arith in z) ∙ zero-mul w
 
-module _ {R : Type 0} {w : ℕ} {made : List ℕ → R} {cells : R → List ℕ} (laws : Laws w made cells) where
-  none_free : (n : ℕ) → (n - n) * w ≡ 0
-  none_free n = ap (λ k. k * w) (let e : n - n ≡ 0 = omega arith in e) ∙ zero-mul w
+module _ {R : Type 0} {g : Ghosts R} where
+  pub length_of : (t : Table R g) → length (rows_of t) ≡ t.len
+  length_of t = length_rows g.WIDTH g.made t.len t.cells.now
 
-  pub held_first : (n : ℕ) (xs : List ℕ) → n * w ≤ length xs → Held w cells n (rows_in w made n xs) xs xs n
-  held_first n xs h =
-      let long = sym (length_rows w made n xs) in
-      record { many = long; table = holding_is laws n n (rows_in w made n xs) xs xs h refl long (rw (none_free n)) }
+  pub filled_same : (t : Table R g) → t.cells.now ≡ filled t t.len (rows_of t)
+  filled_same t = holding_is g.laws t.len t.len (rows_of t) t.cells.now t.cells.now t.fits refl (sym (length_of t)) (rw (none_free g.WIDTH t.len t.len refl))
 
-  pub holding_put : (n i : ℕ) (r : R) (xs ys : List ℕ) → i < n → n * w ≤ length xs → length ys ≡ length xs
-      → ys ≡ take (i * w) xs ++ (cells r ++ drop (i * w + w) xs) → rows_in w made n ys ≡ set (rows_in w made n xs) i r
-      → ys ≡ holding w cells n (set (rows_in w made n xs) i r) xs
-  holding_put n i r xs ys h fits long stored rows =
-      let ends = row_ends w i n h in
-      let cell : i * w + length (cells r) ≡ i * w + w = rw (laws.long r) in
-      holding_is laws n n _ xs ys (omega arith) rows (sym (length-set (rows_in w made n xs) i r ∙ length_rows w made n xs))
-      (rw (none_free n) (ap (drop (n * w)) stored ∙ written_past (i * w) (i * w + w) (n * w) xs (cells r) (omega arith) cell ends))
+  pub filled_put : (t u : Table R g) (i : ℕ) (r : R) → i < t.len → u.len ≡ t.len
+      → u.cells.now ≡ take (i * g.WIDTH) t.cells.now ++ (g.cells r ++ drop (i * g.WIDTH + g.WIDTH) t.cells.now) → rows_of u ≡ set (rows_of t) i r
+      → u.cells.now ≡ filled t t.len (set (rows_of t) i r)
+  filled_put t u i r h same stored rows =
+      let ends = row_ends g.WIDTH i t.len h in
+      let cell : i * g.WIDTH + length (g.cells r) ≡ i * g.WIDTH + g.WIDTH = rw (g.laws.long r) in
+      let start : i * g.WIDTH ≤ length t.cells.now = omega (arith, t.fits) in
+      holding_is g.laws u.len t.len _ t.cells.now u.cells.now u.fits rows (same ∙ sym (length-set (rows_of t) i r ∙ length_of t))
+      (rw (none_free g.WIDTH u.len t.len same, same) (ap (drop (t.len * g.WIDTH)) stored ∙ written_past (i * g.WIDTH) (i * g.WIDTH + g.WIDTH) (t.len * g.WIDTH) t.cells.now (g.cells r) start cell ends))
 
-  pub rows_held : (c m : ℕ) (rs : List R) (xs ys : List ℕ) → Held w cells m rs xs ys c → rows_in w made c ys ≡ rs
-  rows_held c m rs xs ys held = rw (held.many, held.table) (holding_rows laws m rs xs)
+  pub filled_long : (t u : Table R g) (m : ℕ) (rs : List R) → u.cells.now ≡ filled t m rs → length rs ≤ m → m * g.WIDTH ≤ length t.cells.now → length u.cells.now ≡ length t.cells.now
+  filled_long t u m rs held h k = ap length held ∙ length_holding g.laws m rs t.cells.now h k
 
-  -- After a function that answers r and does f to the c rows that it finds.
-  pub held_next : (f : List R → List R) (m k most : ℕ) (rs qs : List R) (xs ys zs : List ℕ) (c r : ℕ) → Held w cells m rs xs ys c
-      → r ≡ length (f (rows_in w made c ys)) → zs ≡ holding w cells k (f (rows_in w made c ys)) ys → qs ≡ f rs
-      → (c ≡ length rs → r ≡ length (f rs) → (c ≤ m) × (c ≤ k) × (r ≤ k) × (max m k ≡ most)) → Held w cells most qs xs zs r
-  held_next f m k most rs qs xs ys zs c r held many table same bounds =
-      let rows = rows_held c m rs xs ys held in
-      let result : r ≡ length (f rs) = many ∙ ap (λ l. length (f l)) rows in
-      let b = bounds held.many result in
-      record {
-        many = result ∙ ap length (sym same);
-        table = table ∙ ap (λ l. holding w cells k (f l) ys) rows ∙ ap (holding w cells k (f rs)) held.table
-            ∙ holding_again laws m k rs (f rs) xs (omega (arith, b.0, held.many)) (omega (arith, b.1, held.many)) (omega (arith, b.2))
-            ∙ ap (λ j. holding w cells j (f rs) xs) b.3 ∙ ap (λ l. holding w cells most l xs) (sym same);
-      }
+  pub filled_again : (t u : Table R g) (m k most : ℕ) (rs : List R) → u.cells.now ≡ filled t m (rows_of u) → u.len ≤ m → u.len ≤ k → length rs ≤ k → max m k ≡ most
+      → filled u k rs ≡ filled t most rs
+  filled_again t u m k most rs held h o q top =
+      let long = length_of u in
+      ap (holding g.WIDTH g.cells k rs) held ∙ holding_again g.laws m k (rows_of u) rs t.cells.now (omega arith) (omega arith) q ∙ ap (λ j. filled t j rs) top

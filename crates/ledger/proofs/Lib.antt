@@ -1,7 +1,6 @@
-pub mod Firsts
+pub mod Places
 pub mod Held
 pub mod Entries
 pub mod Fitting
 pub mod Visits
 pub mod Limits
-pub mod OutRead

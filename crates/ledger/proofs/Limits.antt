@@ -8,7 +8,8 @@ use Rattle.visit.specs.declared.Visit.{Visit}
 use Rattle.rows.specs.Limits.{count_limit, first_over, sum_limit}
 use Rattle.rows.specs.Lines.{line_cells, line_limits}
 use Rattle.rows.specs.Visits.{visit_cells, visit_limits}
-use Rattle.ledger.specs.Fits.{Fits, FitsIn, sums}
+use Rattle.visit.specs.Sums.{sums}
+use Rattle.ledger.specs.Fits.{Fits, FitsIn}
 
 -- No number of a line, or of a visit, is over its limit.
 abbrev pub LineWithin : Line → Type 0

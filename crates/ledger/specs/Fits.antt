@@ -1,8 +1,7 @@
 -- What may still be added to the lines of a ledger.
-use Rattle.std.specs.Prelude.{ℕ, ◌+◌, ◌^◌, ◌<◌, List, sum_by}
+use Rattle.std.specs.Prelude.{ℕ, ◌+◌, ◌^◌, ◌<◌, List}
 use Rattle.std.specs.List.{AllByRecursion}
 use Rattle.visit.specs.declared.Line.{Line}
-use Rattle.visit.specs.declared.Visit.{Visit}
 
 -- k visits of the sum s in all, put to a line, fit in 64 bits.
 abbrev pub FitsIn : ℕ → ℕ → Line → Type 0
@@ -13,7 +12,3 @@ pub record Fits (k s : ℕ) (ls : List Line) : Type 0 where
   pub visits : k < 2 ^ 64
   pub sum : s < 2 ^ 64
   pub lines : AllByRecursion (FitsIn k s) ls
-
--- The sum of visits.
-abbrev pub sums : List Visit → ℕ
-sums vs = sum_by (λ v. v.sum) vs

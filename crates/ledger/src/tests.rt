@@ -1,7 +1,8 @@
 // Changes brought to small ledgers, so that a slip in a definition shows too. A day has 10 seconds.
-use crate::posting::{OUT_HEAD, post};
-use rows::limits::first_over;
-use visit::{Line, Terms, Visit};
+use crate::posting::post;
+use rows::out::ChangedRows;
+use rows::table::Table;
+use visit::Terms;
 
 // The largest sum that a line may have.
 const LARGEST: u64 = (1 << 52) - 1;
@@ -107,7 +108,7 @@ const CASES: [(&str, [u64; 12], usize, [u64; 12], [u64; 12], usize); 12] = [
 ];
 
 // Only what is within its room and its limits is brought to the ledger.
-fn post_within(table: &mut [u64], n: usize, out: &[u64]) -> Option<usize> {
+fn post_within(cells: &mut [u64], n: usize, out: &[u64]) -> Option<usize> {
     let terms = Terms {
         gap: 0,
         lateness: 0,
@@ -117,18 +118,19 @@ fn post_within(table: &mut [u64], n: usize, out: &[u64]) -> Option<usize> {
         || out[0] > 2
         || out[1] > 2 - out[0]
         || n > 3
-        || table.len() < (n + out[1] as usize) * 4
+        || cells.len() < (n + out[1] as usize) * 4
     {
         return None;
     }
-    let new_at = OUT_HEAD + out[0] as usize * 5;
-    let None = first_over::<Line>(table, n) else {
+    let mut table = Table::new(cells, n);
+    let None = table.rows().first_over() else {
         return None;
     };
-    let None = first_over::<Visit>(&out[new_at..], out[1] as usize) else {
+    let None = ChangedRows::read(out).added.first_over() else {
         return None;
     };
-    Some(post(table, n, out, terms))
+    post(&mut table, out, terms);
+    Some(table.len)
 }
 
 #[test]

@@ -1,19 +1,16 @@
--- A visit that takes in others from the front, with the table as it stands on the way: those taken in are behind all others.
-use Rattle.std.proofs.Common.{◌≡◌, ℕ, ◌+◌, ◌-◌, ◌*◌, ◌^◌, ◌<◌, ◌≤◌, max, List, [], ◌∷◌, ◌++◌, length, get_or, take, drop, sum_by, sym, refl, ap, ◌∙◌, arith}
-use Rattle.std.specs.List.{remove}
+-- A visit that takes in others from the front, with the visits as they stand on the way: those taken in are behind all others.
+use Rattle.std.proofs.Common.{◌≡◌, ℕ, ◌+◌, ◌-◌, ◌^◌, ◌<◌, ◌≤◌, List, [], ◌∷◌, ◌++◌, length, get_or, sum_by, sym, refl, ap, ◌∙◌, arith}
+use Rattle.std.specs.List.{insert, remove}
 use Rattle.std.proofs.lemmas.List.{append_assoc, append-nil, get_or_at, length-append, length_push}
+use Rattle.std.proofs.lemmas.List.Edits.{insert_end}
 use Rattle.std.proofs.lemmas.List.Sums.{sum_by-cons}
 use Rattle.visit.specs.declared.Terms.{Terms}
 use Rattle.visit.specs.declared.Visit.{Visit}
 use Rattle.visit.specs.Visits.{merged}
-use Rattle.rows.specs.Visits.{visit_cells, visit_laws, visit_made, visit_width}
-use Rattle.rows.proofs.Holding.{holding_again}
-use Rattle.rows.proofs.Splits.{length_rows}
 use Rattle.live.specs.Steps.{step_of}
-use Rattle.live.specs.Tables.{counts, sums, visits_held, visits_in}
+use Rattle.visit.specs.Sums.{counts, sums}
 use Rattle.live.specs.Walk.{became, left_over, place_of, placed_of, taken_in}
 use Rattle.live.specs.declared.steps.Step.TheVariants.{Take, Pass, Stop}
-use Rattle.live.proofs.Held.{held_rows, holding_itself, holding_row}
 use Rattle.live.proofs.Stepping.{passed_before, stopped_neither, taken_near}
 
 -- One element gone from a list that is cut at it.
@@ -21,19 +18,18 @@ removed_at : {X : Type 0} (xs : List X) (x : X) (ys : List X) → remove (xs ++ 
 removed_at [] x ys = refl
 removed_at (y ∷ xs) x ys = ap (λ l. y ∷ l) (removed_at xs x ys)
 
--- The visits of the table on the way: those passed, those ahead, and those taken in, behind all others.
-pub record Walked (t : Terms) (start : Visit) (n : ℕ) (xs₀ xs : List ℕ) (v : Visit) (others at : ℕ) : Type 0 where
+-- Of the visits vs, as qs on the way: those passed, those ahead, and those taken in, behind all others.
+pub record Walked (t : Terms) (start : Visit) (vs qs : List Visit) (v : Visit) (others at : ℕ) : Type 0 where
   pub front : List Visit
   pub rest : List Visit
   pub taken : List Visit
   pub passed : length front ≡ at
   pub ahead : at + length rest ≡ others
-  pub whole : others + length taken ≡ n
-  pub table : xs ≡ visits_held n (front ++ (rest ++ taken)) xs₀
-  pub lasting : left_over t start (visits_in n xs₀) ≡ front ++ left_over t v rest
-  pub absorbed : taken_in t start (visits_in n xs₀) ≡ taken ++ taken_in t v rest
-  pub becomes : became t start (visits_in n xs₀) ≡ became t v rest
-  pub place : place_of t start (visits_in n xs₀) ≡ at + place_of t v rest
+  pub rows : qs ≡ front ++ (rest ++ taken)
+  pub lasting : left_over t start vs ≡ front ++ left_over t v rest
+  pub absorbed : taken_in t start vs ≡ taken ++ taken_in t v rest
+  pub becomes : became t start vs ≡ became t v rest
+  pub place : place_of t start vs ≡ at + place_of t v rest
   pub count : counts rest + v.count < 2 ^ 64
   pub sum : sums rest + v.sum < 2 ^ 64
 
@@ -45,20 +41,16 @@ over_at_end : (t : Terms) (v : Visit) (rest : List Visit) → length rest ≡ 0 
 over_at_end t v [] none = (refl, refl, refl, refl)
 over_at_end t v (x ∷ ws) none = absurd (omega arith)
 
-module _ {t : Terms} {start : Visit} {n : ℕ} {xs₀ : List ℕ} where
-  pub walked_none : n * visit_width ≤ length xs₀ → counts (visits_in n xs₀) + start.count < 2 ^ 64 → sums (visits_in n xs₀) + start.sum < 2 ^ 64
-      → Walked t start n xs₀ xs₀ start n 0
-  walked_none room count sum =
-      let vs = visits_in n xs₀ in
-      let long = length_rows visit_width visit_made n xs₀ in
+module _ {t : Terms} {start : Visit} {vs : List Visit} where
+  pub walked_none : (n : ℕ) → length vs ≡ n → counts vs + start.count < 2 ^ 64 → sums vs + start.sum < 2 ^ 64 → Walked t start vs vs start n 0
+  walked_none n long count sum =
       record {
         front = [];
         rest = vs;
         taken = [];
         passed = refl;
         ahead = omega arith;
-        whole = omega arith;
-        table = holding_itself visit_laws n xs₀ room ∙ ap (λ l. visits_held n l xs₀) (sym (append-nil vs));
+        rows = sym (append-nil vs);
         lasting = refl;
         absorbed = refl;
         becomes = refl;
@@ -67,28 +59,21 @@ module _ {t : Terms} {start : Visit} {n : ℕ} {xs₀ : List ℕ} where
         sum = sum;
       }
 
-  module _ {xs : List ℕ} {v : Visit} {others at : ℕ} (so : Walked t start n xs₀ xs v others at) where
-    length_walked : length (so.front ++ (so.rest ++ so.taken)) ≡ n
-    length_walked = length-append so.front (so.rest ++ so.taken) ∙ omega (arith, length-append so.rest so.taken, so.passed, so.ahead, so.whole)
-
-    walked_rows : visits_in n xs ≡ so.front ++ (so.rest ++ so.taken)
-    walked_rows = held_rows visit_laws n n _ xs₀ xs length_walked so.table
-
-    -- The row that is read is the first of those ahead.
+  module _ {qs : List Visit} {v : Visit} {others at : ℕ} (so : Walked t start vs qs v others at) where
+    -- The visit that is read is the first of those ahead.
     first_ahead : (x : Visit) (rest : List Visit) → 0 < length rest → x ≡ get_or (so.front ++ (rest ++ so.taken)) at x → (ws : List Visit) × (rest ≡ x ∷ ws)
     first_ahead x [] some read = absurd (omega arith)
     first_ahead x (y ∷ ws) some read = (ws, ap (λ z. z ∷ ws) (sym (read ∙ get_or_at so.front y (ws ++ so.taken) x at so.passed)))
 
-    pub walked_next : (x : Visit) → at < others → ((m : ℕ) (d : Visit) → at < m → x ≡ get_or (visits_in m xs) at d) → (ws : List Visit) × (so.rest ≡ x ∷ ws)
-    walked_next x here read =
-        first_ahead x so.rest (omega (arith, so.ahead)) (read n x (omega (arith, so.ahead, so.whole)) ∙ ap (λ l. get_or l at x) walked_rows)
+    pub walked_next : (x : Visit) → at < others → x ≡ get_or qs at x → (ws : List Visit) × (so.rest ≡ x ∷ ws)
+    walked_next x here read = first_ahead x so.rest (omega (arith, so.ahead)) (read ∙ ap (λ l. get_or l at x) so.rows)
 
     module _ (x : Visit) (next : (ws : List Visit) × (so.rest ≡ x ∷ ws)) where
       -- What one visit takes in, the ones ahead no longer have.
       pub share_taken : (f : Visit → ℕ) → sum_by f so.rest ≡ f x + sum_by f next.0
       share_taken f = ap (sum_by f) next.1 ∙ sum_by-cons f x next.0
 
-      pub walked_past : Pass ≡ step_of t v x → Walked t start n xs₀ xs v others (at + 1)
+      pub walked_past : Pass ≡ step_of t v x → Walked t start vs qs v others (at + 1)
       walked_past step =
           let far = (passed_before t v x step).0 in
           let before = (passed_before t v x step).1 in
@@ -101,8 +86,7 @@ module _ {t : Terms} {start : Visit} {n : ℕ} {xs₀ : List ℕ} where
             taken = so.taken;
             passed = length_push so.front x ∙ ap (λ k. k + 1) so.passed;
             ahead = omega (arith, so.ahead, ap length first);
-            whole = so.whole;
-            table = so.table ∙ ap (λ l. visits_held n l xs₀) (ap (λ l. so.front ++ (l ++ so.taken)) first ∙ one (ws ++ so.taken));
+            rows = so.rows ∙ ap (λ l. so.front ++ (l ++ so.taken)) first ∙ one (ws ++ so.taken);
             lasting = so.lasting ∙ ap (λ l. so.front ++ left_over t v l) first ∙ simp (far, before) (one (left_over t v ws));
             absorbed = so.absorbed ∙ ap (λ l. so.taken ++ taken_in t v l) first ∙ simp (far, before);
             becomes = so.becomes ∙ ap (became t v) first ∙ simp (far, before);
@@ -111,33 +95,23 @@ module _ {t : Terms} {start : Visit} {n : ℕ} {xs₀ : List ℕ} where
             sum = omega (arith, so.sum, share_taken (λ u. u.sum));
           }
 
-      pub walked_taken : Take ≡ step_of t v x → (ys zs : List ℕ) → ys ≡ visits_held n (remove (visits_in n xs) at) xs
-          → zs ≡ take ((n - 1) * visit_width) ys ++ (visit_cells x ++ drop ((n - 1) * visit_width + visit_width) ys)
-          → Walked t start n xs₀ zs (merged v x) (others - 1) at
-      walked_taken step ys zs gone stored =
+      -- It goes, and comes back behind all others.
+      pub walked_taken : Take ≡ step_of t v x → (k : ℕ) (ps : List Visit) → k ≡ length (remove qs at) → ps ≡ insert (remove qs at) k x
+          → Walked t start vs ps (merged v x) (others - 1) at
+      walked_taken step k ps end put =
           let is_near = taken_near t v x step in
           let ws = next.0 in
           let first = next.1 in
-          let rs = so.front ++ (so.rest ++ so.taken) in
-          let qs = so.front ++ (ws ++ so.taken) in
-          let long = length_walked in
-          let fewer : length qs ≡ n - 1 =
-          length-append so.front (ws ++ so.taken) ∙ omega (arith, length-append ws so.taken, so.passed, so.ahead, so.whole, ap length first) in
-          let others_left : remove (visits_in n xs) at ≡ qs =
-          ap (λ l. remove l at) (walked_rows ∙ ap (λ l. so.front ++ (l ++ so.taken)) first) ∙ ap (remove _) (sym so.passed) ∙ removed_at so.front x (ws ++ so.taken) in
-          let top : max n n ≡ n = omega arith in
-          let held : ys ≡ visits_held n qs xs₀ =
-          gone ∙ ap (λ l. visits_held n l xs) others_left ∙ ap (visits_held n qs) so.table
-          ∙ holding_again visit_laws n n rs qs xs₀ (omega arith) (omega arith) (omega arith) ∙ ap (λ k. visits_held k qs xs₀) top in
+          let gone : remove qs at ≡ so.front ++ (ws ++ so.taken) =
+          ap (λ l. remove l at) (so.rows ∙ ap (λ l. so.front ++ (l ++ so.taken)) first) ∙ ap (remove _) (sym so.passed) ∙ removed_at so.front x (ws ++ so.taken) in
           record {
             front = so.front;
             rest = ws;
             taken = so.taken ++ x ∷ [];
             passed = so.passed;
             ahead = omega (arith, so.ahead, ap length first);
-            whole = omega (arith, so.whole, so.ahead, ap length first, length_push so.taken x);
-            table = stored ∙ holding_row visit_laws (n - 1) n qs x xs₀ ys fewer (omega (arith, so.ahead, so.whole, ap length first)) held
-                ∙ ap (λ l. visits_held n l xs₀) (append_assoc so.front (ws ++ so.taken) (x ∷ []) ∙ ap (λ l. so.front ++ l) (append_assoc ws so.taken (x ∷ [])));
+            rows = put ∙ ap (λ j. insert (remove qs at) j x) end ∙ insert_end (remove qs at) x ∙ ap (λ l. l ++ x ∷ []) gone
+                ∙ append_assoc so.front (ws ++ so.taken) (x ∷ []) ∙ ap (λ l. so.front ++ l) (append_assoc ws so.taken (x ∷ []));
             lasting = so.lasting ∙ ap (λ l. so.front ++ left_over t v l) first ∙ simp is_near;
             absorbed = so.absorbed ∙ ap (λ l. so.taken ++ taken_in t v l) first ∙ simp is_near (sym (append_assoc so.taken (x ∷ []) (taken_in t (merged v x) ws)));
             becomes = so.becomes ∙ ap (became t v) first ∙ simp is_near;
@@ -155,16 +129,16 @@ module _ {t : Terms} {start : Visit} {n : ℕ} {xs₀ : List ℕ} where
         let after = (stopped_neither t v x step).1 in
         rw next.1 (simp (far, after), simp (far, after), simp (far, after), simp (far, after))
 
-    pub walked_placed : Over t v so.rest → record { visit = v; at = at; others = others } ≡ placed_of t start (visits_in n xs₀)
+    pub walked_placed : Over t v so.rest → record { visit = v; at = at; others = others } ≡ placed_of t start vs
     walked_placed end =
-        let visit : v ≡ became t start (visits_in n xs₀) = sym (so.becomes ∙ end.2) in
-        let place : at ≡ place_of t start (visits_in n xs₀) = omega (arith, so.place, end.3) in
-        let lasting : length (left_over t start (visits_in n xs₀)) ≡ length (so.front ++ so.rest) = ap length (so.lasting ∙ ap (λ l. so.front ++ l) end.0) in
-        let many : others ≡ length (left_over t start (visits_in n xs₀)) = omega (arith, lasting, length-append so.front so.rest, so.passed, so.ahead) in
+        let visit : v ≡ became t start vs = sym (so.becomes ∙ end.2) in
+        let place : at ≡ place_of t start vs = omega (arith, so.place, end.3) in
+        let lasting : length (left_over t start vs) ≡ length (so.front ++ so.rest) = ap length (so.lasting ∙ ap (λ l. so.front ++ l) end.0) in
+        let many : others ≡ length (left_over t start vs) = omega (arith, lasting, length-append so.front so.rest, so.passed, so.ahead) in
         cc
 
-    pub walked_table : Over t v so.rest → xs ≡ visits_held n (left_over t start (visits_in n xs₀) ++ taken_in t start (visits_in n xs₀)) xs₀
-    walked_table end =
-        let lasting : left_over t start (visits_in n xs₀) ≡ so.front ++ so.rest = so.lasting ∙ ap (λ l. so.front ++ l) end.0 in
-        let taken : taken_in t start (visits_in n xs₀) ≡ so.taken = so.absorbed ∙ ap (λ l. so.taken ++ l) end.1 ∙ append-nil so.taken in
-        rw (lasting, taken, append_assoc so.front so.rest so.taken) so.table
+    pub walked_rows : Over t v so.rest → qs ≡ left_over t start vs ++ taken_in t start vs
+    walked_rows end =
+        let lasting : left_over t start vs ≡ so.front ++ so.rest = so.lasting ∙ ap (λ l. so.front ++ l) end.0 in
+        let taken : taken_in t start vs ≡ so.taken = so.absorbed ∙ ap (λ l. so.taken ++ l) end.1 ∙ append-nil so.taken in
+        rw (lasting, taken, append_assoc so.front so.rest so.taken) so.rows

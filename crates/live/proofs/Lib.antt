@@ -1,4 +1,3 @@
-pub mod Walking
 pub mod Held
 pub mod Parts
 pub mod Stepping

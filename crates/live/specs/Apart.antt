@@ -1,10 +1,10 @@
 -- Visits that are in order and apart, and those that are gathered to be merged into one.
-use Rattle.std.specs.Prelude.{◌≡◌, ◌+◌, ◌<◌, ◌≤◌, List, [], ◌∷◌, take, slice_index_or}
+use Rattle.std.specs.Prelude.{◌≡◌, ◌+◌, ◌<◌, ◌≤◌, List, [], ◌∷◌}
 use Rattle.std.specs.List.{AllByRecursion}
+use Rattle.arrayvec.specs.ArrayVec.{array_vec_len}
 use Rattle.visit.specs.declared.Terms.{Terms}
 use Rattle.visit.specs.declared.Visit.{Visit}
 use Rattle.visit.specs.Readings.{gap_of}
-use Rattle.rows.specs.Visits.{visit_made}
 use Rattle.live.specs.Walk.{place_of, taken_in}
 use Rattle.live.specs.declared.gathering.Gathered.{Gathered}
 
@@ -17,12 +17,12 @@ abbrev pub Apart : Terms → List Visit → Type 0
 Apart t [] = Unit {0}
 Apart t (v ∷ vs) = (v.from ≤ v.to) × AllByRecursion (WellBefore t v) vs × Apart t vs
 
--- The first that is gathered: the visit that is to be merged in.
+-- The visit that is to be merged in.
 abbrev pub own : Gathered → Visit
-own g = slice_index_or g.visits 0 (visit_made [])
+own g = g.visit
 
 -- Gathered for a visit v among others: v itself, those that it takes in, and its place.
 pub record Gathers (t : Terms) (v : Visit) (vs : List Visit) (g : Gathered) : Type 0 where
-  pub few : g.len ≤ 3
-  pub near : take g.len g.visits ≡ v ∷ taken_in t v vs
+  pub few : array_vec_len g.near ≤ 2
+  pub near : own g ∷ g.near.items ≡ v ∷ taken_in t v vs
   pub place : g.at ≡ place_of t v vs

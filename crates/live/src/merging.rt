@@ -1,16 +1,14 @@
 // A visit merged into the visits of a table.
-ghost use Rattle.std.specs.Prelude.{◌≡◌, ◌+◌, ◌-◌, ◌*◌, ◌^◌, ◌<◌, ◌≤◌, max, ◌++◌, length, take, drop, replicate};
-ghost use Rattle.live.specs.Tables.{counts, sums, visits_held, visits_in};
+ghost use Rattle.std.specs.Prelude.{◌≡◌, ◌+◌, ◌*◌, ◌^◌, ◌<◌, ◌≤◌, max, ◌++◌, length, take};
+ghost use Rattle.rows.specs.Tables.{filled, rows_of};
+ghost use Rattle.rows.specs.Visits.{visit_width};
+ghost use Rattle.visit.specs.Sums.{counts, sums};
 ghost use Rattle.live.specs.Walk.{left_over, placed_of, taken_in};
 ghost use Rattle.model.specs.Store.{merge_in};
-ghost use Rattle.rows.specs.Visits.{visit_width};
 ghost use Rattle.std.specs.List.{insert};
 
 use crate::steps::{Step, next_step};
-use rows::access::{put, row_at};
-use rows::cells::clear;
-use rows::change::{insert, remove};
-use rows::row::Row;
+use rows::table::Table;
 use visit::{Terms, Visit};
 
 // A visit that has taken in others, its place, and how many are left besides.
@@ -21,65 +19,31 @@ pub struct Placed {
     pub others: usize,
 }
 
-// From the front: near visits are taken in and leave the table, ones before the visit are passed.
-pub fn absorb(table: &mut [u64], n: usize, visit: Visit, terms: Terms) -> Placed
-    requires room { n * visit_width ≤ length table.old }
-    requires count { counts (visits_in n table.old) + visit.count < 2 ^ 64 }
-    requires sum { sums (visits_in n table.old) + visit.sum < 2 ^ 64 }
-    ensures few { result.others ≤ n }
-    ensures place { result.at ≤ result.others }
-    ensures rows { insert (visits_in result.others table.new) result.at result.visit ≡ merge_in terms visit (visits_in n table.old) }
-    ensures behind { drop (result.others * visit_width) table.new ≡ replicate (n * visit_width - result.others * visit_width) 0 ++ drop (n * visit_width) table.old }
-{
-    let mut grown = visit;
-    let mut others = n;
-    let mut at = 0;
-    while at < others {
-        let row: Visit = row_at(table, at);
-        if grown.near(row, terms) {
-            grown = grown.merge(row);
-            remove::<Visit>(table, others, at);
-            others -= 1;
-        } else {
-            if !row.before(grown, terms) {
-                return Placed {
-                    visit: grown,
-                    at,
-                    others,
-                };
-            }
-            at += 1;
-        }
-    }
-    Placed {
-        visit: grown,
-        at,
-        others,
-    }
-}
-
 // From the front: ones before the visit are passed, near ones are taken in and move behind all others, where the caller can still read them.
-pub fn set_aside(table: &mut [u64], n: usize, visit: Visit, terms: Terms) -> Placed
-    requires room { n * visit_width ≤ length table.old }
-    requires count { counts (visits_in n table.old) + visit.count < 2 ^ 64 }
-    requires sum { sums (visits_in n table.old) + visit.sum < 2 ^ 64 }
-    ensures placed { result ≡ placed_of terms visit (visits_in n table.old) }
-    ensures table { table.new ≡ visits_held n (left_over terms visit (visits_in n table.old) ++ taken_in terms visit (visits_in n table.old)) table.old }
+pub fn set_aside(table: &mut Table<'_, Visit>, visit: Visit, terms: Terms) -> Placed
+    requires count { counts (rows_of table.old) + visit.count < 2 ^ 64 }
+    requires sum { sums (rows_of table.old) + visit.sum < 2 ^ 64 }
+    ensures same { table.new.cells.ghost_name ≡ table.old.cells.ghost_name }
+    ensures len { table.new.len ≡ table.old.len }
+    ensures placed { result ≡ placed_of terms visit (rows_of table.old) }
+    ensures rows { rows_of table.new ≡ left_over terms visit (rows_of table.old) ++ taken_in terms visit (rows_of table.old) }
+    ensures held { table.new.cells.now ≡ filled table.old table.old.len (left_over terms visit (rows_of table.old) ++ taken_in terms visit (rows_of table.old)) }
 {
     let mut grown = visit;
-    let mut others = n;
+    let mut others = table.len;
     let mut at = 0;
-    'walk: while at < others {
-        let row: Visit = row_at(table, at);
+    // By place, since the table changes under the walk.
+    while at < others {
+        let row = table.row(at);
         match next_step(grown, row, terms) {
             Step::Take => {
                 grown = grown.merge(row);
-                remove::<Visit>(table, n, at);
-                put(table, n - 1, row);
+                table.remove(at);
+                table.insert(table.len, row);
                 others -= 1;
             }
             Step::Pass => at += 1,
-            Step::Stop => break 'walk,
+            Step::Stop => break,
         }
     }
     Placed {
@@ -89,33 +53,31 @@ pub fn set_aside(table: &mut [u64], n: usize, visit: Visit, terms: Terms) -> Pla
     }
 }
 
-// Only the first `others` rows stay, and the visit is put among them. How many there are then.
-pub fn place(table: &mut [u64], n: usize, placed: Placed) -> usize
+// Only the first `others` rows stay, and the visit is put among them.
+pub fn place(table: &mut Table<'_, Visit>, placed: Placed)
     requires place { placed.at ≤ placed.others }
-    requires few { placed.others ≤ n }
-    requires room { n * visit_width + visit_width ≤ length table.old }
-    ensures many { result ≡ placed.others + 1 }
-    ensures table { table.new ≡ visits_held (max n (placed.others + 1)) (insert (take placed.others (visits_in n table.old)) placed.at placed.visit) table.old }
+    requires few { placed.others ≤ table.old.len }
+    requires room { table.old.len * visit_width + visit_width ≤ length table.old.cells.now }
+    ensures same { table.new.cells.ghost_name ≡ table.old.cells.ghost_name }
+    ensures len { table.new.len ≡ placed.others + 1 }
+    ensures rows { rows_of table.new ≡ insert (take placed.others (rows_of table.old)) placed.at placed.visit }
+    ensures held { table.new.cells.now ≡ filled table.old (max table.old.len (placed.others + 1)) (insert (take placed.others (rows_of table.old)) placed.at placed.visit) }
 {
-    let Placed { visit, at, others } = placed;
-    let w = <Visit as Row>::width();
-    clear(table, others * w, n * w);
-    insert(table, others, at, visit);
-    others + 1
+    table.truncate(placed.others);
+    table.insert(placed.at, placed.visit);
 }
 
-// How many there are afterwards. Behind them cells that are no longer taken are 0, and the rest is as it was.
-pub fn merge(table: &mut [u64], n: usize, visit: Visit, terms: Terms) -> usize
-    requires room { n * visit_width + visit_width ≤ length table.old }
-    requires count { counts (visits_in n table.old) + visit.count < 2 ^ 64 }
-    requires sum { sums (visits_in n table.old) + visit.sum < 2 ^ 64 }
-    ensures few { result ≤ n + 1 }
-    ensures rows { visits_in result table.new ≡ merge_in terms visit (visits_in n table.old) }
-    ensures behind { drop (result * visit_width) table.new ≡ replicate (n * visit_width - result * visit_width) 0 ++ drop (max n result * visit_width) table.old }
-    ensures many { result ≡ length (merge_in terms visit (visits_in n table.old)) }
-    ensures table { table.new ≡ visits_held (max n result) (merge_in terms visit (visits_in n table.old)) table.old }
+// Behind the visits cells that are no longer taken are 0, and the rest is as it was.
+pub fn merge(table: &mut Table<'_, Visit>, visit: Visit, terms: Terms)
+    requires room { table.old.len * visit_width + visit_width ≤ length table.old.cells.now }
+    requires count { counts (rows_of table.old) + visit.count < 2 ^ 64 }
+    requires sum { sums (rows_of table.old) + visit.sum < 2 ^ 64 }
+    ensures same { table.new.cells.ghost_name ≡ table.old.cells.ghost_name }
+    ensures few { table.new.len ≤ table.old.len + 1 }
+    ensures len { table.new.len ≡ length (merge_in terms visit (rows_of table.old)) }
+    ensures rows { rows_of table.new ≡ merge_in terms visit (rows_of table.old) }
+    ensures held { table.new.cells.now ≡ filled table.old (max table.old.len table.new.len) (merge_in terms visit (rows_of table.old)) }
 {
-    let placed = absorb(table, n, visit, terms);
-    insert(table, placed.others, placed.at, placed.visit);
-    placed.others + 1
+    let placed = set_aside(table, visit, terms);
+    place(table, placed);
 }

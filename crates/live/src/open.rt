@@ -1,22 +1,14 @@
 // Visits of a table that may still grow.
-ghost use Rattle.std.specs.Prelude.{◌≡◌, ◌*◌, ◌≤◌, length};
-ghost use Rattle.live.specs.Tables.{open_only, visits_in};
-ghost use Rattle.rows.specs.Visits.{visit_width};
+ghost use Rattle.std.specs.Prelude.{◌≡◌, length};
+ghost use Rattle.live.specs.Tables.{open_only};
+ghost use Rattle.rows.specs.Tables.{rows_seen};
 
-use rows::access::row_at;
-use visit::{Terms, Visit};
+use rows::table::Rows;
+use visit::{Clock, Visit};
 
-// How many of the n visits are not closed at the watermark.
-pub fn open_count(table: &[u64], n: usize, terms: Terms, watermark: u64) -> usize
-    requires { n * visit_width ≤ length table.now }
-    ensures { result ≡ length (open_only terms watermark (visits_in n table.now)) }
+// How many are not closed at the watermark.
+pub fn open_count(rows: Rows<'_, Visit>, clock: Clock) -> usize
+    ensures { result ≡ length (open_only clock.terms clock.watermark (rows_seen rows.entry)) }
 {
-    let mut count = 0;
-    for i in 0..n {
-        let row: Visit = row_at(table, i);
-        if !row.closed(terms, watermark) {
-            count += 1;
-        }
-    }
-    count
+    rows.iter().filter(|visit| !visit.closed(clock)).count()
 }

@@ -2,8 +2,9 @@
 ghost use Rattle.live.specs.Steps.{step_of};
 ghost use Rattle.std.specs.Prelude.{◌≡◌};
 
-use visit::{Terms, Visit};
+use visit::{Ordered, Terms, Visit};
 
+// Three outcomes, asked for in this order and matched where the walk is.
 #[derive(Clone, Copy)]
 pub enum Step {
     Take,

@@ -3,8 +3,9 @@ use crate::expiry::expire;
 use crate::gathering::{gather, merge_apart};
 use crate::merging::{merge, set_aside};
 use crate::open::open_count;
-use rows::limits::first_over;
-use visit::{Terms, Visit};
+use rows::table::{Rows, Table};
+use std::array;
+use visit::{Clock, Terms, Visit};
 
 // What it is, the gap, the rows (card, first time, last time, count, sum), the visit, its place, the rows with those taken in behind the others, and the rows afterwards.
 const MERGED: [(
@@ -190,16 +191,12 @@ const JOINED: [(&str, u64, &[[u64; 3]], usize, &[[u64; 5]]); 6] = [
 ];
 
 // A table of four rows and a cell behind them: the given rows, 0 up to row `most`, and 7 from there on.
-fn table_of(rows: &[[u64; 5]], most: usize) -> [u64; 21] {
-    let mut table = [7; 21];
-    for i in 0..21 {
-        if i / 5 < rows.len() {
-            table[i] = rows[i / 5][i % 5];
-        } else if i / 5 < most {
-            table[i] = 0;
-        }
-    }
-    table
+fn cells_of(rows: &[[u64; 5]], most: usize) -> [u64; 21] {
+    array::from_fn(|i| match rows.get(i / 5) {
+        Some(row) => row[i % 5],
+        None if i / 5 < most => 0,
+        None => 7,
+    })
 }
 
 // The place and the table after the walk, how many there are after the merging, and the table; None if a number is over its limit.
@@ -209,12 +206,12 @@ fn merged(
     gap: u64,
 ) -> Option<(usize, [u64; 21], usize, [u64; 21])> {
     let n = rows.len();
-    let mut table = table_of(rows, n);
+    let mut cells = cells_of(rows, n);
     let [card, from, to, count, sum] = visit;
     if n > 3 || count > 10 || sum > 10 {
         return None;
     }
-    let None = first_over::<Visit>(&table, n) else {
+    let None = Rows::<Visit>::new(&cells, n).first_over() else {
         return None;
     };
     let visit = Visit {
@@ -229,17 +226,19 @@ fn merged(
         lateness: 30,
         day: 100,
     };
-    let mut walked = table;
-    let placed = set_aside(&mut walked, n, visit, terms);
-    let many = merge(&mut table, n, visit, terms);
-    Some((placed.at, walked, many, table))
+    let mut walked = cells;
+    let placed = set_aside(&mut Table::new(&mut walked, n), visit, terms);
+    let mut table = Table::new(&mut cells, n);
+    merge(&mut table, visit, terms);
+    let many = table.len;
+    Some((placed.at, walked, many, cells))
 }
 
 #[test]
 fn merges(rt: HostRuntime) {
     for (what, gap, before, visit, at, walked, after) in MERGED {
         let n = before.len();
-        let expected = (at, table_of(walked, n), after.len(), table_of(after, n));
+        let expected = (at, cells_of(walked, n), after.len(), cells_of(after, n));
         assert_eq!(rt; merged(before, visit, gap), Some(expected), "{}", what);
     }
 }
@@ -251,14 +250,14 @@ fn joined(readings: &[[u64; 3]], gap: u64) -> Option<(usize, [u64; 21])> {
         lateness: 30,
         day: 100,
     };
-    let mut table = [7; 21];
-    let mut n = 0;
+    let mut cells = [7; 21];
+    let mut table = Table::new(&mut cells, 0);
     for reading in readings {
         let [card, time, sum] = *reading;
-        if n > 3 || sum > 10 {
+        if table.len > 3 || sum > 10 {
             return None;
         }
-        let None = first_over::<Visit>(&table, n) else {
+        let None = table.rows().first_over() else {
             return None;
         };
         let visit = Visit {
@@ -268,16 +267,17 @@ fn joined(readings: &[[u64; 3]], gap: u64) -> Option<(usize, [u64; 21])> {
             count: 1,
             sum,
         };
-        let gathered = gather(&table, n, visit, terms);
-        n = merge_apart(&mut table, n, gathered, terms);
+        let gathered = gather(table.rows(), visit, terms);
+        merge_apart(&mut table, &gathered, terms);
     }
-    Some((n, table))
+    let many = table.len;
+    Some((many, cells))
 }
 
 #[test]
 fn joins(rt: HostRuntime) {
     for (what, gap, readings, most, after) in JOINED {
-        let expected = (after.len(), table_of(after, most));
+        let expected = (after.len(), cells_of(after, most));
         assert_eq!(rt; joined(readings, gap), Some(expected), "{}", what);
     }
 }
@@ -290,14 +290,12 @@ fn expires(rt: HostRuntime) {
         day: 100,
     };
     for (what, watermark, open, after) in EXPIRED {
-        let mut table = table_of(&ROWS, 3);
-        assert_eq!(rt; open_count(&table, 3, terms, watermark), open, "{}", what);
-        assert_eq!(rt;
-            expire(&mut table, 3, terms, watermark),
-            after.len(),
-            "{}",
-            what
-        );
-        assert_eq!(rt; table, table_of(after, 3), "{}", what);
+        let mut cells = cells_of(&ROWS, 3);
+        let clock = Clock { terms, watermark };
+        assert_eq!(rt; open_count(Rows::new(&cells, 3), clock), open, "{}", what);
+        let mut table = Table::new(&mut cells, 3);
+        expire(&mut table, clock);
+        assert_eq!(rt; table.len, after.len(), "{}", what);
+        assert_eq!(rt; cells, cells_of(after, 3), "{}", what);
     }
 }

@@ -1,22 +1,15 @@
-use Rattle.std.proofs.Common.{arith}
+use Rattle.std.proofs.Common.{rules, arith, ap, ◌∙◌}
+use Rattle.std.specs.Bool.{then_some}
 use Rattle.visit.specs.Visits.{closed}
 use Rattle.model.specs.Sessions.{closed_visits}
-use Rattle.model.proofs.Common.{kept_shorter}
 use Rattle.changes.proofs.Written.{reading_written}
 use Rattle.changes.proofs.apart.by_reading_apart.Goals as goal
 
-pub put_added-requires : goal.put_added-requires
-put_added-requires c =
-    omega (arith, kept_shorter (closed c.args.terms c.args.watermark) c.args.near.now, c.requires, c.put_closed-retracted.ensures.many)
-
-pub returns : goal.returns
-returns c =
-    let t = c.args.terms in
-    let m = c.args.watermark in
+pub returns-clause-out : goal.returns-clause-out
+returns-clause-out c =
+    let t = c.args.clock.terms in
+    let m = c.args.clock.watermark in
     let z = c.args.made in
-    let gone = closed_visits t m c.args.near.now in
-    let copied = c.put_closed-retracted in
-    let all =
-    reading_written gone z c.closed-wanted.result (closed t m z) c.args.out.now copied.new.target c.put_added.new.out copied.result c.put_added.result
-    (omega arith) copied.ensures.many copied.ensures.stored c.closed-wanted.ensures c.put_added.ensures.many c.put_added.ensures.out in
-    record { many = all.0; out = all.1 }
+    let put = c.put_rows-retracted in
+    reading_written (closed_visits t m c.args.near.now) z (closed t m z) c.then_some-added.result c.args.out.now put.new.target c.put_added.new.out put.result
+    (omega arith) (search rules) (search rules) (c.then_some-added.ensures ∙ ap (λ b. then_some b z) c.closed.ensures) c.put_added.ensures.out

@@ -1,77 +1,63 @@
-use Rattle.std.proofs.Common.{◌≡◌, ◌+◌, ◌<◌, ◌≤◌, max, not, length, set, sym, ap, ◌∙◌, arith}
-use Rattle.std.specs.List.{insert}
-use Rattle.std.proofs.lemmas.List.Edits.{length-insert}
-use Rattle.std.proofs.ByRecursion.{All-get_or}
-use Rattle.std.proofs.lemmas.List.{length-set}
-use Rattle.visit.specs.declared.Line.{Line}
-use Rattle.visit.specs.Lines.{line_before}
+use Rattle.std.proofs.Common.{◌≡◌, ◌+◌, max, set, sym, ap, ◌∙◌, arith}
+use Rattle.std.specs.List.{insert, slice_get}
+use Rattle.std.proofs.lemmas.Option.{get_or_from_slice_get, slice_get_within}
 use Rattle.model.specs.Ledger.{add_line}
-use Rattle.rows.specs.Lines.{line_laws, line_made, line_width}
-use Rattle.rows.proofs.Splits.{length_rows}
-use Rattle.ledger.specs.Fits.{FitsIn}
-use Rattle.ledger.specs.Table.{lines_held, lines_in}
-use Rattle.ledger.proofs.Entries.{add_between, add_last, add_to}
-use Rattle.ledger.proofs.Firsts.{first_within}
-use Rattle.ledger.proofs.Held.{holding_put}
+use Rattle.rows.specs.Tables.{filled, rows_of, rows_seen}
+use Rattle.ledger.proofs.Entries.{add_between, add_last, add_place, add_to}
+use Rattle.ledger.proofs.Held.{filled_put, length_of}
+use Rattle.ledger.proofs.Places.{none_there}
 use Rattle.ledger.proofs.adding.add.Goals as goal
-use Rattle.ledger.proofs.adding.add.Goals.{then-at-n+else-same_key, else-at-n}
+use Rattle.ledger.proofs.adding.add.Goals.{After-get, in_default-via-in-Some+else-same_key, in_default-via-in_default}
 
-pub plus-requires : goal.plus-requires
-plus-requires c =
-    let ls = lines_in c.args.n c.args.table.now in
-    let found = c.row_at-found.result in
-    let read = c.row_at-found.ensures c.args.n found c.if-at-n.true in
-    let inside : c.find-at.result < length ls = omega (arith, length_rows line_width line_made c.args.n c.args.table.now) in
-    let fits = All-get_or (FitsIn c.args.line.visits c.args.line.sum) ls c.find-at.result found inside c.requires.fits.lines in
+-- The place is that of the line, and the row looked at is the line there, if there is one.
+placed : (c : After-get) → c.place-at.result ≡ add_place c.args.terms c.args.line (rows_of c.args.table.now)
+placed c = let seen : rows_seen c.rows-rows.result ≡ rows_of c.args.table.now = cc in c.place-at.ensures.before ∙ ap (add_place c.args.terms c.args.line) seen
+
+looked_at : (c : After-get) → slice_get (rows_of c.args.table.now) c.place-at.result ≡ c.get.result
+looked_at c = let seen : rows_seen c.rows-rows.result ≡ rows_of c.args.table.now = cc in sym (c.get.ensures ∙ ap (λ ls. slice_get ls c.place-at.result) seen)
+
+pub put-requires : goal.put-requires
+put-requires c =
+    let ls = rows_of c.args.table.now in
+    omega (arith, slice_get_within ls c.place-at.result c.in-Some.found (looked_at (goal.at.put-requires c).After-get ∙ c.in-Some.is), length_of c.args.table.now)
+
+pub returns-in-Some : goal.returns-in-Some
+returns-in-Some c =
+    let t = c.args.table.now in
+    let ls = rows_of t in
+    let at = c.place-at.result in
+    let found = c.in-Some.found in
+    let read = looked_at (goal.at.returns-in-Some c).After-get ∙ c.in-Some.is in
+    let inside = slice_get_within ls at found read in
+    let added : set ls at c.plus.result ≡ add_line c.args.terms c.args.line ls =
+    ap (set ls at) c.plus.ensures
+    ∙ sym (add_to c.args.terms c.args.line ls at found inside (sym (get_or_from_slice_get ls at found found read)) (placed (goal.at.returns-in-Some c).After-get) (sym c.if-same_key.ensures)) in
+    let top : t.len ≡ max t.len c.put.new.self.len = omega (arith, c.put.ensures.len) in
     record {
-      visits = omega (arith, fits.0, ap (λ (l : Line). l.visits) read);
-      sum = omega (arith, fits.1, ap (λ (l : Line). l.sum) read);
+      same = c.put.ensures.same;
+      lines = c.put.ensures.rows ∙ added;
+      held = filled_put t c.put.new.self at c.plus.result (omega (arith, length_of t)) c.put.ensures.len c.put.ensures.stored c.put.ensures.rows
+          ∙ ap (filled t t.len) added ∙ ap (λ k. filled t k (add_line c.args.terms c.args.line ls)) top;
     }
 
-pub returns-then-same_key : goal.returns-then-same_key
-returns-then-same_key c =
-    let n = c.args.n in
-    let xs = c.args.table.now in
-    let ls = lines_in n xs in
-    let at = c.find-at.result in
-    let found = c.row_at-found.result in
-    let here : at < n = c.if-at-n.true in
-    let long : length ls ≡ n = length_rows line_width line_made n xs in
-    let added : add_line c.args.terms c.args.line ls ≡ set ls at c.plus.result =
-    add_to c.args.terms c.args.line ls at found (omega arith) (c.row_at-found.ensures n found here) c.find-at.ensures (sym c.if-same_key.ensures)
-    ∙ ap (set ls at) (sym c.plus.ensures) in
-    let top : n ≡ max n n = omega arith in
+pub returns-in_default : goal.returns-in_default
+returns-in_default c =
+    let t = c.args.table.now in
+    let ls = rows_of t in
+    let at = c.place-at.result in
+    let long = length_of t in
+    let read = looked_at (goal.at.returns-in_default c).After-get in
+    let place = placed (goal.at.returns-in_default c).After-get in
+    let added : insert ls at c.args.line ≡ add_line c.args.terms c.args.line ls =
+    sym (elim c.in_default.branch [
+      | in_default-via-in-Some+else-same_key w ↦
+          let here = read ∙ w.in-Some.is in
+          add_between c.args.terms c.args.line ls at w.in-Some.found (slice_get_within ls at w.in-Some.found here) (sym (get_or_from_slice_get ls at w.in-Some.found w.in-Some.found here)) place (sym w.if-same_key.ensures)
+      | in_default-via-in_default w ↦ add_last c.args.terms c.args.line ls at place (none_there ls at (read ∙ w.in_default.is))
+    ]) in
+    let top : t.len + 1 ≡ max t.len c.insert.new.self.len = omega (arith, c.insert.ensures.len) in
     record {
-      many = sym (ap length added ∙ length-set ls at c.plus.result ∙ long);
-      table = holding_put line_laws n at c.plus.result xs c.put.new.table here (omega arith) (omega arith) c.put.ensures.stored (c.put.ensures.rows n here)
-          ∙ ap (λ l. lines_held n l xs) (sym added) ∙ ap (λ k. lines_held k (add_line c.args.terms c.args.line ls) xs) top;
-    }
-
-pub insert-requires : goal.insert-requires
-insert-requires c =
-    let n = c.args.n in
-    let ls = lines_in n c.args.table.now in
-    record {
-      place = omega (arith, c.find-at.ensures, first_within (λ l. not (line_before c.args.terms l c.args.line)) ls, length_rows line_width line_made n c.args.table.now);
-      room = c.requires.room;
-    }
-
-pub returns : goal.returns
-returns c =
-    let n = c.args.n in
-    let xs = c.args.table.now in
-    let ls = lines_in n xs in
-    let at = c.find-at.result in
-    let long : length ls ≡ n = length_rows line_width line_made n xs in
-    let within : at ≤ length ls = omega (arith, c.find-at.ensures, first_within (λ l. not (line_before c.args.terms l c.args.line)) ls) in
-    let added : add_line c.args.terms c.args.line ls ≡ insert ls at c.args.line =
-    elim c.if-at-n.branch [
-      | then-at-n+else-same_key w ↦
-          add_between c.args.terms c.args.line ls at w.row_at-found.result (omega arith) (w.row_at-found.ensures n w.row_at-found.result w.if-at-n.true) c.find-at.ensures (sym w.if-same_key.ensures)
-      | else-at-n w ↦ add_last c.args.terms c.args.line ls at c.find-at.ensures (omega arith)
-    ] in
-    let top : n + 1 ≡ max n (n + 1) = omega arith in
-    record {
-      many = sym (ap length added ∙ length-insert ls at c.args.line within ∙ ap (λ k. k + 1) long);
-      table = c.insert.ensures.held ∙ ap (λ l. lines_held (n + 1) l xs) (sym added) ∙ ap (λ k. lines_held k (add_line c.args.terms c.args.line ls) xs) top;
+      same = c.insert.ensures.same;
+      lines = c.insert.ensures.rows ∙ added;
+      held = c.insert.ensures.held ∙ ap (filled t (t.len + 1)) added ∙ ap (λ k. filled t k (add_line c.args.terms c.args.line ls)) top;
     }

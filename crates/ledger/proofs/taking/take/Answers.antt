@@ -1,55 +1,54 @@
-use Rattle.std.proofs.Common.{◌≡◌, ◌<◌, length, set, sym, ap, ◌∙◌, arith}
-use Rattle.std.proofs.lemmas.List.Edits.{length-remove}
-use Rattle.std.proofs.lemmas.List.{length-set}
-use Rattle.rows.specs.Lines.{line_laws, line_made, line_width}
-use Rattle.rows.proofs.Splits.{length_rows}
-use Rattle.ledger.specs.Table.{lines_held, lines_in}
-use Rattle.ledger.proofs.Entries.{take_gone, take_less, take_none}
-use Rattle.ledger.proofs.Held.{held_first, holding_put}
+use Rattle.std.proofs.Common.{◌≡◌, Bool, cond, ltb, Some, None, length, set, rules, sym, refl, ap, ◌∙◌, arith}
+use Rattle.std.proofs.lemmas.Iterator.Search.{position_from_yields_List}
+use Rattle.visit.specs.declared.Line.{Line}
+use Rattle.visit.specs.Lines.{same_key}
+use Rattle.rows.specs.Tables.{filled, rows_of, rows_seen}
+use Rattle.rows.proofs.Running.{rows_list}
+use Rattle.ledger.proofs.Entries.{take_gone, take_less, take_none, take_place}
+use Rattle.ledger.proofs.Held.{filled_put, filled_same, length_of}
+use Rattle.ledger.proofs.Places.{place_found, place_missed}
 use Rattle.ledger.proofs.taking.take.Goals as goal
+use Rattle.ledger.proofs.taking.take.Goals.{After-position}
 
-pub returns-then-at-n : goal.returns-then-at-n
-returns-then-at-n c =
-    let n = c.args.n in
-    let xs = c.args.table.now in
-    let ls = lines_in n xs in
-    let long : length ls ≡ n = length_rows line_width line_made n xs in
-    let same = take_none c.args.terms c.args.line ls c.find-at.result c.find-at.ensures (omega arith) in
-    record {
-      many = sym (ap length same ∙ long);
-      table = (held_first line_laws n xs c.requires).table ∙ ap (λ l. lines_held n l xs) (sym same);
-    }
+-- Where the first line of the key is, or that there is none.
+looked_for : (c : After-position)
+    → c.position.result ≡ cond (ltb (take_place c.args.terms c.args.line (rows_of c.args.table.now)) (length (rows_of c.args.table.now)))
+    (Some (take_place c.args.terms c.args.line (rows_of c.args.table.now))) None
+looked_for c =
+    let ls = rows_of c.args.table.now in
+    let seen : rows_seen c.rows.result ≡ ls = cc in
+    let of_key : Line → Bool = λ x. same_key c.args.terms x c.args.line in
+    position_from_yields_List of_key c.position.new.self _ c.position.result c.position.ensures.ran (rows_list ls (c.iter.ensures.rest ∙ seen)) (λ x b q k. search rules)
+
+pub returns-in_default : goal.returns-in_default
+returns-in_default c =
+    let t = c.args.table.now in
+    let ls = rows_of t in
+    let k = take_place c.args.terms c.args.line ls in
+    let all = take_none c.args.terms c.args.line ls k refl (place_missed k (length ls) c.position.result (looked_for (goal.at.returns-in_default c).After-position) c.in_default.is) in
+    record { same = refl; lines = sym all; held = filled_same t ∙ ap (filled t t.len) (sym all) }
 
 pub returns-then-found-line : goal.returns-then-found-line
 returns-then-found-line c =
-    let n = c.args.n in
-    let xs = c.args.table.now in
-    let ls = lines_in n xs in
-    let at = c.find-at.result in
-    let found = c.row_at-found.result in
-    let here : at < n = c.if-at-n.false in
-    let long : length ls ≡ n = length_rows line_width line_made n xs in
-    let inside : at < length ls = omega arith in
-    let gone = take_gone c.args.terms c.args.line ls at found inside (c.row_at-found.ensures n found here) c.find-at.ensures c.if-found-line.true in
-    record {
-      many = omega (arith, ap length gone, length-remove ls at inside);
-      table = c.remove.ensures.held ∙ ap (λ l. lines_held n l xs) (sym gone);
-    }
+    let t = c.args.table.now in
+    let ls = rows_of t in
+    let at = c.in-Some.at in
+    let found = c.row-found.result in
+    let here = place_found (take_place c.args.terms c.args.line ls) (length ls) c.position.result (looked_for (goal.at.returns-then-found-line c).After-position) at c.in-Some.is in
+    let gone = sym (take_gone c.args.terms c.args.line ls at found here.1 (c.row-found.ensures found) here.0 c.if-found-line.true) in
+    record { same = c.remove.ensures.same; lines = c.remove.ensures.rows ∙ gone; held = c.remove.ensures.held ∙ ap (filled t t.len) gone }
 
-pub returns : goal.returns
-returns c =
-    let n = c.args.n in
-    let xs = c.args.table.now in
-    let ls = lines_in n xs in
-    let at = c.find-at.result in
-    let found = c.row_at-found.result in
-    let here : at < n = c.if-at-n.false in
-    let long : length ls ≡ n = length_rows line_width line_made n xs in
-    let inside : at < length ls = omega arith in
-    let less = take_less c.args.terms c.args.line ls at found inside (c.row_at-found.ensures n found here) c.find-at.ensures c.if-found-line.false
-    ∙ ap (set ls at) (sym c.minus.ensures) in
+pub returns-else-found-line : goal.returns-else-found-line
+returns-else-found-line c =
+    let t = c.args.table.now in
+    let ls = rows_of t in
+    let at = c.in-Some.at in
+    let found = c.row-found.result in
+    let here = place_found (take_place c.args.terms c.args.line ls) (length ls) c.position.result (looked_for (goal.at.returns-else-found-line c).After-position) at c.in-Some.is in
+    let less = ap (set ls at) c.minus.ensures ∙ sym (take_less c.args.terms c.args.line ls at found here.1 (c.row-found.ensures found) here.0 c.if-found-line.false) in
     record {
-      many = sym (ap length less ∙ length-set ls at c.minus.result ∙ long);
-      table = holding_put line_laws n at c.minus.result xs c.put.new.table here (omega arith) (omega arith) c.put.ensures.stored (c.put.ensures.rows n here)
-          ∙ ap (λ l. lines_held n l xs) (sym less);
+      same = c.put.ensures.same;
+      lines = c.put.ensures.rows ∙ less;
+      held = filled_put t c.put.new.self at c.minus.result (omega (arith, here.1, length_of t)) c.put.ensures.len c.put.ensures.stored c.put.ensures.rows
+          ∙ ap (filled t t.len) less;
     }

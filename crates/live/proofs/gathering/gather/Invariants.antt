@@ -1,5 +1,9 @@
+use Rattle.rows.specs.Tables.{rows_left, rows_seen}
 use Rattle.live.proofs.Collecting.{Collected}
 use Rattle.live.proofs.gathering.gather.Given as goal
 
-abbrev pub invariant-walk : goal.invariant-walk
-invariant-walk l = Collected l.terms l.visit l.n l.table l.visits l.len l.at l.i
+abbrev pub invariant-loop-row : goal.invariant-loop-row
+invariant-loop-row l =
+    (goal.iterator-loop-row).can_next l.row-iterator
+    × (goal.iterator-loop-row).is_finite l.row-iterator
+    × Collected l.terms l.visit (rows_seen l.fn.rows) l.near.items l.at (rows_left l.row-iterator)

@@ -1,29 +1,31 @@
-use Rattle.std.proofs.Common.{◌≡◌, ◌+◌, ◌*◌, length, take, refl, ap, ◌∙◌, arith}
+use Rattle.std.proofs.Common.{◌+◌, ◌≤◌, max, length, take, sym, ap, ◌∙◌, arith}
 use Rattle.std.specs.List.{insert}
+use Rattle.std.proofs.lemmas.List.{length-take-le}
 use Rattle.std.proofs.lemmas.List.Edits.{length-insert}
-use Rattle.rows.specs.Cells.{cleared}
+use Rattle.rows.specs.Tables.{filled, rows_of}
 use Rattle.rows.specs.Visits.{visit_laws, visit_made, visit_width}
-use Rattle.rows.proofs.Holding.{holding_again}
-use Rattle.rows.proofs.Splits.{length_rows, take_rows}
-use Rattle.live.specs.Tables.{visits_held, visits_in}
-use Rattle.live.proofs.Held.{held_rows, holding_cleared}
+use Rattle.rows.proofs.Holding.{length_holding}
+use Rattle.rows.proofs.Splits.{length_rows}
+use Rattle.live.proofs.Held.{held_again}
 use Rattle.live.proofs.merging.place.Goals as goal
 
-pub returns : goal.returns
-returns c =
-    let n = c.args.n in
+pub insert-requires-clause-room : goal.insert-requires-clause-room
+insert-requires-clause-room c =
+    let t = c.args.table.now in
+    let left' = c.truncate.new.self in
+    let held = c.truncate.ensures.held ∙ ap (filled t t.len) (sym c.truncate.ensures.rows) in
+    let few : left'.len ≤ t.len = omega (arith, c.truncate.ensures.len, c.requires.few) in
+    omega (arith, c.requires.room, ap length held, length_holding visit_laws t.len (rows_of left') t.cells.now (rw (length_rows visit_width visit_made left'.len left'.cells.now) few) t.fits)
+
+pub returns-clause-held : goal.returns-clause-held
+returns-clause-held c =
+    let t = c.args.table.now in
     let o = c.args.placed.others in
-    let xs = c.args.table.now in
-    let ys = c.clear.new.table in
-    let vs = visits_in o xs in
-    let more = insert vs c.args.placed.at c.args.placed.visit in
-    let many : length vs ≡ o = length_rows visit_width visit_made o xs in
-    let long : length more ≡ length vs + 1 = length-insert vs c.args.placed.at c.args.placed.visit (omega arith) in
-    let held : ys ≡ visits_held n vs xs =
-    c.clear.ensures ∙ ap (λ w. cleared (o * w) (n * w) xs) c.width-w.ensures ∙ holding_cleared visit_laws o n xs c.requires.few (omega arith) in
-    let front : take o (visits_in n xs) ≡ vs = take_rows visit_width visit_made o n xs c.requires.few in
-    record {
-      many = refl;
-      table = c.insert.ensures.held ∙ rw (held_rows visit_laws o n vs xs ys many held, held, front)
-          (holding_again visit_laws n (o + 1) vs more xs (omega arith) (omega arith) (omega arith));
-    }
+    let left' = take o (rows_of t) in
+    let after = insert left' c.args.placed.at c.args.placed.visit in
+    let all = length_rows visit_width visit_made t.len t.cells.now in
+    let many = length-take-le o (rows_of t) (omega (arith, all, c.requires.few)) in
+    let more = length-insert left' c.args.placed.at c.args.placed.visit (omega (arith, c.requires.place)) in
+    let put = c.insert.ensures.held ∙ ap (λ l. filled c.truncate.new.self (c.truncate.new.self.len + 1) (insert l c.args.placed.at c.args.placed.visit)) c.truncate.ensures.rows in
+    held_again visit_laws t.len (c.truncate.new.self.len + 1) (max t.len (o + 1)) left' after t.cells.now c.truncate.new.self.cells.now c.insert.new.self.cells.now
+    (omega arith) (omega arith) (omega arith) (omega arith) c.truncate.ensures.held put

@@ -1,10 +1,18 @@
-use Rattle.std.proofs.Common.{◌-◌}
+use Rattle.std.proofs.Common.{◌≡◌, ◌-◌, ◌≤◌}
+use Rattle.rows.specs.Tables.{filled, rows_of}
 use Rattle.live.proofs.Aside.{Walked}
 use Rattle.live.proofs.merging.set_aside.Given as goal
 
-abbrev pub invariant-walk : goal.invariant-walk
-invariant-walk l = Walked l.terms l.initial.grown l.n l.initial.table l.table l.grown l.others l.at
+abbrev pub invariant-loop-at : goal.invariant-loop-at
+invariant-loop-at l =
+    record {
+      same : l.table.cells.ghost_name ≡ l.initial.table.cells.ghost_name;
+      len : l.table.len ≡ l.initial.table.len;
+      within : l.others ≤ l.table.len;
+      held : l.table.cells.now ≡ filled l.initial.table l.initial.table.len (rows_of l.table);
+      walked : Walked l.terms l.initial.grown (rows_of l.initial.table) (rows_of l.table) l.grown l.others l.at;
+    }
 
 -- Each round takes a visit in or passes one.
-abbrev pub decreases-walk : goal.decreases-walk
-decreases-walk l = l.others - l.at
+abbrev pub decreases-loop-at : goal.decreases-loop-at
+decreases-loop-at l = l.others - l.at

@@ -1,21 +1,30 @@
-use Rattle.std.proofs.Common.{length, sym, arith}
+use Rattle.std.proofs.Common.{sym, ◌∙◌, arith}
 use Rattle.live.proofs.Fitting.{counts_limited, sums_limited}
 use Rattle.live.proofs.tests.merged.Goals as goal
 
 pub set_aside-placed-requires : goal.set_aside-placed-requires
 set_aside-placed-requires c =
-    let none = sym c.in-None.ensures in
+    let seen = c.new.result in
+    let t = c.new-2.result in
+    let len = c.new-2.ensures.len ∙ sym c.new.ensures.len in
+    let cells = c.new-2.ensures.cells ∙ sym c.new.ensures.cells in
     record {
-      room = omega arith;
-      count = omega (arith, counts_limited (length c.args.rows.now) c.table_of-table.result (omega arith) none);
-      sum = omega (arith, sums_limited (length c.args.rows.now) c.table_of-table.result (omega arith) none);
+      count = omega (arith, len, c.new.ensures.len, counts_limited seen.len seen.cells.now seen.fits c.in-None.ensures t.len t.cells.now len cells);
+      sum = omega (arith, len, c.new.ensures.len, sums_limited seen.len seen.cells.now seen.fits c.in-None.ensures t.len t.cells.now len cells);
     }
 
-pub merge-many-requires : goal.merge-many-requires
-merge-many-requires c =
-    let none = sym c.in-None.ensures in
-    record {
-      room = omega arith;
-      count = omega (arith, counts_limited (length c.args.rows.now) c.table_of-table.result (omega arith) none);
-      sum = omega (arith, sums_limited (length c.args.rows.now) c.table_of-table.result (omega arith) none);
-    }
+pub merge-requires-clause-count : goal.merge-requires-clause-count
+merge-requires-clause-count c =
+    let seen = c.new.result in
+    let t = c.new-table.result in
+    let len = c.new-table.ensures.len ∙ sym c.new.ensures.len in
+    let cells = c.new-table.ensures.cells ∙ sym c.new.ensures.cells in
+    omega (arith, len, c.new.ensures.len, counts_limited seen.len seen.cells.now seen.fits c.in-None.ensures t.len t.cells.now len cells)
+
+pub merge-requires-clause-sum : goal.merge-requires-clause-sum
+merge-requires-clause-sum c =
+    let seen = c.new.result in
+    let t = c.new-table.result in
+    let len = c.new-table.ensures.len ∙ sym c.new.ensures.len in
+    let cells = c.new-table.ensures.cells ∙ sym c.new.ensures.cells in
+    omega (arith, len, c.new.ensures.len, sums_limited seen.len seen.cells.now seen.fits c.in-None.ensures t.len t.cells.now len cells)
