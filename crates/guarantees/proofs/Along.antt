@@ -1,10 +1,8 @@
 -- Calls one after another.
-use Rattle.std.proofs.Common.{◌≡◌, ℕ, Bool, true, false, cond, ◌||◌, eqb, List, [], ◌∷◌, drop, sym, refl, ap, ◌∙◌, subst, ⊎_elim}
+use Rattle.std.proofs.Common.{Err, ◌≡◌, ℕ, Bool, true, false, cond, ◌||◌, eqb, List, [], ◌∷◌, drop, sym, refl, ap, ◌∙◌, subst, ⊎_elim}
 use Rattle.std.proofs.lemmas.Bool.{true≢false}
 use Rattle.visit.specs.declared.Terms.{Terms}
-use Rattle.command.specs.declared.Reply.{Reply}
-use Rattle.command.specs.declared.Reply.TheVariants.{Refused}
-use Rattle.command.specs.Numbers.{reply_number}
+use Rattle.command.specs.Numbers.{Reply, reply_number}
 use Rattle.command.specs.Outcomes.{reply_of}
 use Rattle.model.specs.Reference.{Reference, empty, outcome_by, state_by}
 use Rattle.model.specs.Store.{Store}
@@ -56,7 +54,7 @@ module _ (t : Terms) (k : Reference) (s : Standing t k) (rest : List ℕ) (c : C
 
   moved_withheld : Withheld t k rest c → Moved t k rest c
   moved_withheld h =
-      let reply : answer_to_it.reply ≡ Refused h.refusal = ap (λ (a : Applied). a.reply) h.answered in
+      let reply : answer_to_it.reply ≡ Err h.refusal = ap (λ (a : Applied). a.reply) h.answered in
       let hidden : withheld answer_to_it.reply ≡ true = ap withheld reply ∙ h.unheard in
       let n : next t k c answer_to_it.reply ≡ k = next_withheld t k c answer_to_it.reply hidden in
       record {

@@ -12,7 +12,8 @@ use Rattle.model.proofs.Common.{split}
 use Rattle.model.proofs.Mirror.{image}
 use Rattle.store.specs.Applied.{Applied}
 use Rattle.store.specs.Contents.{empty_row, header_of}
-use Rattle.store.specs.Faults.{command_in, room_fault}
+use Rattle.command.specs.Cells.{command_in}
+use Rattle.store.specs.Faults.{room_fault}
 use Rattle.store.specs.Layout.{store_size}
 use Rattle.guarantees.specs.AnyTime.{reference_now}
 use Rattle.guarantees.specs.Calls.{Call, answer}

@@ -4,8 +4,7 @@ use Rattle.std.proofs.lemmas.Bool.{false≢true}
 use Rattle.visit.specs.declared.Terms.{Terms}
 use Rattle.visit.specs.declared.Visit.{Visit}
 use Rattle.command.specs.declared.Refusal.{Refusal}
-use Rattle.command.specs.declared.Reply.{Reply}
-use Rattle.command.specs.declared.Reply.TheVariants.{Done, Refused}
+use Rattle.command.specs.Numbers.{Reply}
 use Rattle.command.specs.Outcomes.{Outcome, changed, refused, reply_of}
 use Rattle.model.specs.AddsUp.{AllSound, Sound, applied_all, applied_to}
 use Rattle.model.specs.Ledger.{totals}
@@ -14,7 +13,7 @@ use Rattle.model.specs.Store.{Draft}
 use Rattle.model.proofs.Adding.{changes_applied, changes_sound, closed_rising}
 use Rattle.model.proofs.Common.{split}
 use Rattle.model.proofs.Order.{SortedReadings}
-use Rattle.ledger.specs.Out.{gone_count, new_count}
+use Rattle.rows.specs.Out.{gone_count, new_count}
 use Rattle.store.specs.Applied.{Applied, applied_by}
 use Rattle.store.specs.Contents.{empty_row}
 use Rattle.store.specs.Faults.{verdict}
@@ -31,7 +30,7 @@ pub read_again : (o : Outcome) (out : List ℕ) → read_from (reply_of o) (out_
 read_again (changed gone new) out = let g = gone_written gone new out in let n = new_written gone new out in cc
 read_again (refused r) out = refl
 
-counts_by : (xs out : List ℕ) (v : Result Draft Refusal) (n : ℕ) → (applied_by xs out v).reply ≡ Done n
+counts_by : (xs out : List ℕ) (v : Result Draft Refusal) (n : ℕ) → (applied_by xs out v).reply ≡ Ok n
     → n ≡ gone_count (applied_by xs out v).out + new_count (applied_by xs out v).out
 counts_by xs out (Ok d) n e = cc
 counts_by xs out (Err r) n e = absurd (let z : ◌≡◌ {A = ℕ} 0 1 = cc in omega arith)
@@ -46,8 +45,8 @@ heard_read t k c a r h =
     ap (λ (q : Reply). read_from q a.out) (r.reply h) ∙ ap (read_from (reply_of o)) (r.out h) ∙ read_again o c.out
 
 pub withheld_read : (r : Reply) (out : List ℕ) → withheld r ≡ true → (q : Refusal) × (read_from r out ≡ refused q)
-withheld_read (Done n) out h = absurd (false≢true h)
-withheld_read (Refused q) out h = (q, refl)
+withheld_read (Ok n) out h = absurd (false≢true h)
+withheld_read (Err q) out h = (q, refl)
 
 -- One outcome put to the closed visits.
 applied_outcome : (t : Terms) (k : Reference) (p : Result Reference Refusal) → SortedReadings t k.readings → SortedReadings t (state_by k p).readings

@@ -8,12 +8,13 @@ use Rattle.visit.specs.Readings.{reading_before, too_late}
 use Rattle.command.specs.declared.Command.{Command}
 use Rattle.command.specs.declared.Command.TheVariants.{Reading as AReading, Watermark}
 use Rattle.command.specs.declared.Refusal.{Refusal}
-use Rattle.command.specs.declared.Reply.{Reply}
+use Rattle.command.specs.Numbers.{Reply}
 use Rattle.command.specs.Bounds.{command_fault, terms_fault, word_limit}
 use Rattle.model.specs.Reference.{Reference, or_fault, plan, state_by}
 use Rattle.model.specs.Sessions.{contains, insert_reading}
 use Rattle.model.proofs.Common.{split}
-use Rattle.store.specs.Faults.{command_in, first_fault, out_fault, row_fault}
+use Rattle.command.specs.Cells.{command_in, row_fault}
+use Rattle.store.specs.Faults.{first_fault, out_fault}
 use Rattle.guarantees.specs.Calls.{Call, answer}
 use Rattle.guarantees.specs.Faithful.{next, planned, reference_left, withheld}
 use Rattle.guarantees.proofs.Keeping.{planned_by}

@@ -27,7 +27,7 @@ use Rattle.model.proofs.Mirror.{image, outcome_mirror, step_mirror}
 use Rattle.model.proofs.Order.{all_insert}
 use Rattle.changes.specs.Room.{out_width}
 use Rattle.store.specs.Contents.{empty_row, store_in}
-use Rattle.store.specs.Faults.{command_in}
+use Rattle.command.specs.Cells.{command_in}
 use Rattle.store.specs.Layout.{store_size}
 use Rattle.guarantees.specs.AnyTime.{reference_now, row_now}
 use Rattle.guarantees.specs.Calls.{Call, answer}

@@ -10,18 +10,18 @@ use Rattle.command.specs.declared.Command.{Command}
 use Rattle.command.specs.declared.Command.TheVariants.{Reading as AReading, Watermark}
 use Rattle.command.specs.declared.Refusal.{Refusal}
 use Rattle.command.specs.declared.Refusal.TheVariants.{TooLate}
-use Rattle.command.specs.declared.Reply.TheVariants.{Refused}
 use Rattle.model.specs.Sessions.{contains}
 use Rattle.model.specs.Store.{Draft, Store, draft}
 use Rattle.model.proofs.Common.{split}
 use Rattle.store.specs.Applied.{Applied, applied_by}
 use Rattle.store.specs.Contents.{header_in, store_in, terms_in}
-use Rattle.store.specs.Faults.{command_in, faults, store_faults, verdict}
+use Rattle.command.specs.Cells.{command_in}
+use Rattle.store.specs.Faults.{faults, store_faults, verdict}
 use Rattle.guarantees.specs.Calls.{Call, answer}
 use Rattle.guarantees.specs.Refusals.{RefusalsChangeNothing, TooLateAlone, judged}
 use Rattle.guarantees.proofs.Refusing.{Only, first_none, out_only, room_only, row_only, store_only, terms_only, watermark_only, which_comes}
 
-by_verdict : (xs out : List ℕ) (v : Result Draft Refusal) (r : Refusal) → (applied_by xs out v).reply ≡ Refused r → ((applied_by xs out v).store ≡ xs) × ((applied_by xs out v).out ≡ out)
+by_verdict : (xs out : List ℕ) (v : Result Draft Refusal) (r : Refusal) → (applied_by xs out v).reply ≡ Err r → ((applied_by xs out v).store ≡ xs) × ((applied_by xs out v).out ≡ out)
 by_verdict xs out (Err q) r e = (refl, refl)
 by_verdict xs out (Ok d) r e = absurd (let z : ◌≡◌ {A = ℕ} 0 1 = cc in omega arith)
 
@@ -30,14 +30,14 @@ refusals_change_nothing xs c r e = by_verdict xs c.out (verdict c.capacity xs c.
 
 -- A refusal before that judges nothing.
 abbrev Unjudged : Refusal → Type 0
-Unjudged r = judged (Refused r) ≡ false
+Unjudged r = judged (Err r) ≡ false
 
 early : (xs : List ℕ) (c : Call) → AllByRecursion (Only Unjudged) (faults c.capacity xs c.command (length c.out))
 early xs c =
     let later : AllByRecursion (Only Unjudged) (drop (length (store_faults xs)) (faults c.capacity xs c.command (length c.out))) = (
       terms_only Unjudged (λ n. refl) (terms_in xs),
       (
-        watermark_only Unjudged (λ n. refl) (header_in xs),
+        watermark_only Unjudged (λ n. refl) (header_in xs).clock.watermark,
         (
           row_only Unjudged (λ n. refl) c.command,
           (out_only Unjudged (λ n. refl) (length c.out), (room_only Unjudged (λ n. refl) c.capacity (header_in xs) (store_in xs) (command_in c.command), tt)),
@@ -57,7 +57,7 @@ judged_drafts xs c h =
     (which_comes Unjudged (faults c.capacity xs c.command (length c.out)) (early xs c))
 
 -- Which reading is too late, and what is answered to it.
-late_by : (xs out : List ℕ) (t : Terms) (s : Store) (c : Command) (time : ℕ) → (applied_by xs out (draft t s c)).reply ≡ Refused (TooLate time)
+late_by : (xs out : List ℕ) (t : Terms) (s : Store) (c : Command) (time : ℕ) → (applied_by xs out (draft t s c)).reply ≡ Err (TooLate time)
     → (e : Reading) × (c ≡ AReading e) × (too_late t s.watermark e ≡ true) × (e.time ≡ time)
 late_by xs out t s (AReading e) time h =
     split (too_late t s.watermark e)
@@ -70,7 +70,7 @@ late_by xs out t s (Watermark m) time h =
     (λ o. absurd (let z : ◌≡◌ {A = ℕ} 0 1 = cc (simp o at h) in omega arith))
     (λ o. absurd (let z : ◌≡◌ {A = ℕ} 0 1 = cc (simp o at h) in omega arith))
 
-late_answer : (xs out : List ℕ) (t : Terms) (s : Store) (e : Reading) → too_late t s.watermark e ≡ true → (applied_by xs out (draft t s (AReading e))).reply ≡ Refused (TooLate e.time)
+late_answer : (xs out : List ℕ) (t : Terms) (s : Store) (e : Reading) → too_late t s.watermark e ≡ true → (applied_by xs out (draft t s (AReading e))).reply ≡ Err (TooLate e.time)
 late_answer xs out t s e h = simp h
 
 pub too_late_alone : TooLateAlone
@@ -82,4 +82,4 @@ too_late_alone xs ys c d terms mark same j i time h =
     ap (λ (a : Applied). a.reply) (judged_drafts ys d i)
     ∙ ap (λ (q : Command). (applied_by ys d.out (draft (terms_in ys) (store_in ys) q)).reply) (sym same ∙ l.1)
     ∙ late_answer ys d.out (terms_in ys) (store_in ys) e late
-    ∙ ap (λ (n : ℕ). Refused (TooLate n)) l.3
+    ∙ ap (λ (n : ℕ). Err (TooLate n)) l.3

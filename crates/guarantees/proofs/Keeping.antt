@@ -3,7 +3,7 @@ use Rattle.std.proofs.Common.{◌≡◌, ℕ, List, [], ◌∷◌, ◌++◌, Non
 use Rattle.visit.specs.declared.Terms.{Terms}
 use Rattle.command.specs.declared.Command.{Command}
 use Rattle.command.specs.declared.Refusal.{Refusal}
-use Rattle.command.specs.declared.Reply.{Reply}
+use Rattle.command.specs.Numbers.{Reply}
 use Rattle.command.specs.Bounds.{command_fault}
 use Rattle.model.specs.Reference.{Reference, after, empty, plan, state_by, step}
 use Rattle.model.specs.Right.{Right}
@@ -13,7 +13,7 @@ use Rattle.model.proofs.Order.{SortedReadings, step_sorted}
 use Rattle.model.proofs.Partition.{visits_right}
 use Rattle.model.proofs.Runs.{after_append}
 use Rattle.store.specs.Contents.{empty_row}
-use Rattle.store.specs.Faults.{command_in}
+use Rattle.command.specs.Cells.{command_in}
 use Rattle.guarantees.specs.AnyTime.{RowVisitsRight, reference_now}
 use Rattle.guarantees.specs.Calls.{Call, answer}
 use Rattle.guarantees.specs.Faithful.{call_faults, next, planned, reference_left, withheld}

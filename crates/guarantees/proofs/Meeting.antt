@@ -1,12 +1,11 @@
 -- What one call that is done writes to `out`.
-use Rattle.std.proofs.Common.{◌≡◌, ℕ, ◌+◌, ◌≤◌, false, ltb, List, [], ◌∷◌, length, drop, filter, sym, refl, ap, ◌∙◌, subst, ⊎_elim, arith}
+use Rattle.std.proofs.Common.{Ok, ◌≡◌, ℕ, ◌+◌, ◌≤◌, false, ltb, List, [], ◌∷◌, length, drop, filter, sym, refl, ap, ◌∙◌, subst, ⊎_elim, arith}
 use Rattle.std.proofs.lemmas.Bool.{ltb-false}
 use Rattle.visit.specs.declared.Reading.{Reading}
 use Rattle.visit.specs.declared.Terms.{Terms}
 use Rattle.visit.specs.declared.Visit.{Visit}
 use Rattle.command.specs.declared.Command.{Command}
 use Rattle.command.specs.declared.Command.TheVariants.{Reading as AReading, Watermark}
-use Rattle.command.specs.declared.Reply.TheVariants.{Done}
 use Rattle.command.specs.Outcomes.{Outcome, changed, refused, reply_of}
 use Rattle.model.specs.Few.{became, met}
 use Rattle.model.specs.Reference.{Reference, outcome, outcome_by, plan}
@@ -17,10 +16,10 @@ use Rattle.model.proofs.Common.{split}
 use Rattle.changes.specs.Changed.{newly_closed}
 use Rattle.changes.specs.Out.{change_row, overlay}
 use Rattle.changes.proofs.Differences.{only_newly_closed}
-use Rattle.ledger.specs.Out.{gone_count, new_in}
+use Rattle.rows.specs.Out.{gone_count, new_in}
 use Rattle.store.specs.Applied.{Applied, applied_by}
 use Rattle.store.specs.Contents.{store_in, terms_in}
-use Rattle.store.specs.Faults.{command_in}
+use Rattle.command.specs.Cells.{command_in}
 use Rattle.store.specs.Layout.{store_size}
 use Rattle.store.proofs.Ending.{gone_written, new_written}
 use Rattle.guarantees.specs.AnyTime.{reference_now, row_now}
@@ -49,7 +48,7 @@ pub record Written (t : Terms) (k : Reference) (c : Call) (a : Applied) (n : ℕ
   pub out : a.out ≡ overlay (change_row gone new) c.out
   pub count : n ≡ length gone + length new
 
-module _ (t : Terms) (k : Reference) (c : Call) (a : Applied) (n : ℕ) (done : a.reply ≡ Done n) where
+module _ (t : Terms) (k : Reference) (c : Call) (a : Applied) (n : ℕ) (done : a.reply ≡ Ok n) where
   written_by : (o : Outcome) → outcome t k (command_in c.command) ≡ o → a.reply ≡ reply_of o → a.out ≡ out_after o c.out → Written t k c a n
   written_by (changed gone new) o r w = record { gone = gone; new = new; outcome = o; out = w; count = cc (done, r) }
   written_by (refused q) o r w = absurd (let z : ◌≡◌ {A = ℕ} 0 1 = cc (done, r) in omega arith)
@@ -66,7 +65,7 @@ module _ (t : Terms) (k : Reference) (c : Call) (a : Applied) (n : ℕ) (done : 
       absurd (let z : ◌≡◌ {A = ℕ} 0 1 = cc (done, right.reply heard ∙ ap reply_of p) in omega arith))
       (which_comes OpenRefusal (call_faults t c) (call_only t c))
 
-pub written_now : (t : Terms) (xs : List ℕ) (before : List Call) (c : Call) (n : ℕ) → (answer (row_now t xs before) c).reply ≡ Done n
+pub written_now : (t : Terms) (xs : List ℕ) (before : List Call) (c : Call) (n : ℕ) → (answer (row_now t xs before) c).reply ≡ Ok n
     → Written t (reference_now t xs before) c (answer (row_now t xs before) c) n
 written_now t xs before c n done = written t (reference_now t xs before) c (answer (row_now t xs before) c) n done (right_now t xs before c)
 
@@ -118,7 +117,7 @@ row_on_time t xs before c e n q h done =
 abbrev Adds : Terms → Store → ℕ → List ℕ → Type 0
 Adds t s m out = (gone_count out ≡ 0) × (new_in out ≡ filter (newly_closed t s.watermark m) s.live)
 
-adds_by : (xs out : List ℕ) (m n : ℕ) → (applied_by xs out (draft (terms_in xs) (store_in xs) (Watermark m))).reply ≡ Done n
+adds_by : (xs out : List ℕ) (m n : ℕ) → (applied_by xs out (draft (terms_in xs) (store_in xs) (Watermark m))).reply ≡ Ok n
     → Adds (terms_in xs) (store_in xs) m (applied_by xs out (draft (terms_in xs) (store_in xs) (Watermark m))).out
 adds_by xs out m n e =
     let t : Terms = terms_in xs in

@@ -1,14 +1,12 @@
 -- After any calls: what the row holds, and which refusals do not come.
-use Rattle.std.proofs.Common.{◌≡◌, ℕ, ◌+◌, ◌<◌, min, true, ◌||◌, eqb, ◌⊎◌, List, [], length, drop, None, sum_by, Result, sym, refl, ap, ◌∙◌, subst, inl, inr, ⊎_elim, arith}
+use Rattle.std.proofs.Common.{Err, ◌≡◌, ℕ, ◌+◌, ◌<◌, min, true, ◌||◌, eqb, ◌⊎◌, List, [], length, drop, None, sum_by, Result, sym, refl, ap, ◌∙◌, subst, inl, inr, ⊎_elim, arith}
 use Rattle.std.proofs.lemmas.Bool.{eqb-true, lt-ltb, or_cases, true≢false}
 use Rattle.visit.specs.declared.Reading.{Reading}
 use Rattle.visit.specs.declared.Terms.{Terms}
 use Rattle.visit.specs.Readings.{reading_before}
 use Rattle.command.specs.declared.Command.TheVariants.{Reading as AReading}
 use Rattle.command.specs.declared.Refusal.{Refusal}
-use Rattle.command.specs.declared.Reply.{Reply}
-use Rattle.command.specs.declared.Reply.TheVariants.{Refused}
-use Rattle.command.specs.Numbers.{number, reply_number}
+use Rattle.command.specs.Numbers.{Reply, number, reply_number}
 use Rattle.command.specs.Outcomes.{reply_of}
 use Rattle.model.specs.Kept.{Holds}
 use Rattle.model.specs.Reference.{Reference, empty, outcome_by}
@@ -68,7 +66,7 @@ any_order_same_row t xs cs ds h =
 
 -- A call after others: heard, or withheld with a reason.
 pub withheld_now : (t : Terms) (xs : List ℕ) (before : List Call) (c : Call) (P : Type 0) → withheld (answer (row_now t xs before) c).reply ≡ true
-    → ((w : Withheld t (reference_now t xs before) (drop store_size xs) c) → (answer (row_now t xs before) c).reply ≡ Refused w.refusal → P) → P
+    → ((w : Withheld t (reference_now t xs before) (drop store_size xs) c) → (answer (row_now t xs before) c).reply ≡ Err w.refusal → P) → P
 withheld_now t xs before c P hidden f =
     let l = left_now t xs before in
     let k : Reference = reference_now t xs before in
@@ -119,7 +117,7 @@ first_calls_sound t xs before c h =
     store_sound t xs before c (omega arith) (omega arith)
 
 -- A number that is withheld is 1 or 7.
-pub withheld_is : (r : Refusal) → withheld (Refused r) ≡ true → (number r ≡ 1) ⊎ (number r ≡ 7)
+pub withheld_is : (r : Refusal) → withheld (Err r) ≡ true → (number r ≡ 1) ⊎ (number r ≡ 7)
 withheld_is r h = ⊎_elim (λ o. inl (eqb-true (number r) 1 o)) (λ o. inr (eqb-true (number r) 7 o)) (or_cases (eqb (number r) 1) (eqb (number r) 7) h)
 
 pub bad_terms_refused : BadTermsRefused

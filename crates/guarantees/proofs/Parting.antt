@@ -28,7 +28,8 @@ use Rattle.model.proofs.Order.{SortedReadings}
 use Rattle.model.proofs.Totals.{key_after, key_through, one_visit}
 use Rattle.store.specs.declared.capacity.Capacity.{Capacity}
 use Rattle.store.specs.Contents.{header_of}
-use Rattle.store.specs.Faults.{command_in, room_fault}
+use Rattle.command.specs.Cells.{command_in}
+use Rattle.store.specs.Faults.{room_fault}
 use Rattle.store.specs.Layout.{lines_room, readings_room, visits_room}
 use Rattle.guarantees.specs.Calls.{Call}
 use Rattle.guarantees.specs.Cards.{concerns, outcome_part, store_part, visits_part}

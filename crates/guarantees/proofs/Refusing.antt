@@ -7,14 +7,14 @@ use Rattle.command.specs.declared.Command.{Command}
 use Rattle.command.specs.declared.Command.TheVariants.{Reading as AReading, Watermark}
 use Rattle.command.specs.declared.Refusal.{Refusal}
 use Rattle.command.specs.declared.Refusal.TheVariants.{BadStore, BadTerms, BadCommand, Full, ShortOut}
-use Rattle.command.specs.declared.Reply.TheVariants.{Refused}
 use Rattle.command.specs.Bounds.{command_fault, fields, first_over, terms_fault}
 use Rattle.model.specs.Reference.{or_fault}
 use Rattle.model.specs.Store.{Store}
 use Rattle.model.proofs.Common.{split}
 use Rattle.store.specs.declared.capacity.Capacity.{Capacity}
 use Rattle.store.specs.declared.header.Header.{Header}
-use Rattle.store.specs.Faults.{command_in, command_width, first_fault, known_kind, out_fault, room_fault, row_fault, store_faults, watermark_fault}
+use Rattle.command.specs.Cells.{command_in, command_width, known_kind, row_fault}
+use Rattle.store.specs.Faults.{first_fault, out_fault, room_fault, store_faults, watermark_fault}
 use Rattle.guarantees.specs.Calls.{Call}
 use Rattle.guarantees.specs.Faithful.{call_faults, withheld}
 
@@ -70,8 +70,8 @@ module _ (P : Refusal → Type 0) where
   pub terms_only : ((n : ℕ) → P (BadTerms n)) → (t : Terms) → Only P (terms_fault t)
   terms_only h t = let some : (n : ℕ) → Only P (Some (BadTerms n)) = some_only BadTerms h in search (cond_only, some, none_only)
 
-  pub watermark_only : ((n : ℕ) → P (BadTerms n)) → (h : Header) → Only P (watermark_fault h)
-  watermark_only p h = let some : (n : ℕ) → Only P (Some (BadTerms n)) = some_only BadTerms p in search (cond_only, some, none_only)
+  pub watermark_only : ((n : ℕ) → P (BadTerms n)) → (m : ℕ) → Only P (watermark_fault m)
+  watermark_only p m = let some : (n : ℕ) → Only P (Some (BadTerms n)) = some_only BadTerms p in search (cond_only, some, none_only)
 
   pub row_only : ((n : ℕ) → P (BadCommand n)) → (cs : List ℕ) → Only P (row_fault cs)
   row_only h cs =
@@ -90,7 +90,7 @@ abbrev pub IsFull : Refusal → Type 0
 IsFull r = (p : ℕ) × (r ≡ Full p)
 
 abbrev pub OpenRefusal : Refusal → Type 0
-OpenRefusal r = withheld (Refused r) ≡ false
+OpenRefusal r = withheld (Err r) ≡ false
 
 pub call_only : (t : Terms) (c : Call) → AllByRecursion (Only OpenRefusal) (call_faults t c)
 call_only t c =

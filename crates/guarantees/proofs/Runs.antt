@@ -4,13 +4,14 @@ use Rattle.std.specs.List.{AllByRecursion}
 use Rattle.std.proofs.lemmas.Bool.{le-ltb}
 use Rattle.visit.specs.declared.Terms.{Terms}
 use Rattle.command.specs.declared.Refusal.{Refusal}
-use Rattle.command.specs.declared.Reply.{Reply}
+use Rattle.command.specs.Numbers.{Reply}
 use Rattle.command.specs.Bounds.{command_fault, terms_fault}
 use Rattle.command.specs.Outcomes.{Outcome, reply_of}
 use Rattle.model.specs.Reference.{Reference, bounded_plan, empty, or_fault, outcome_by, plan, state_by}
 use Rattle.store.specs.Applied.{Applied}
 use Rattle.store.specs.Contents.{empty_row}
-use Rattle.store.specs.Faults.{command_in, command_width, out_fault, row_fault}
+use Rattle.command.specs.Cells.{command_in, command_width, row_fault}
+use Rattle.store.specs.Faults.{out_fault}
 use Rattle.changes.specs.Room.{out_width}
 use Rattle.guarantees.specs.Calls.{Call, answer, answers}
 use Rattle.guarantees.specs.Faithful.{Faithful, next, out_after, planned}

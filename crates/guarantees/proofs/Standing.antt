@@ -10,7 +10,6 @@ use Rattle.command.specs.declared.Command.{Command}
 use Rattle.command.specs.declared.Command.TheVariants.{Reading as AReading, Watermark}
 use Rattle.command.specs.declared.Refusal.{Refusal}
 use Rattle.command.specs.declared.Refusal.TheVariants.{BadTerms}
-use Rattle.command.specs.declared.Reply.TheVariants.{Refused}
 use Rattle.command.specs.Bounds.{command_fault, terms_fault, time_limit}
 use Rattle.command.specs.Numbers.{number}
 use Rattle.command.specs.Outcomes.{Outcome, reply_of}
@@ -23,7 +22,8 @@ use Rattle.model.proofs.Order.{SortedReadings, all_insert}
 use Rattle.store.specs.declared.capacity.Capacity.{Capacity}
 use Rattle.store.specs.Applied.{Applied, applied_by, outcome_in}
 use Rattle.store.specs.Contents.{header_of, row_after, store_in}
-use Rattle.store.specs.Faults.{command_in, first_fault, out_fault, room_fault, row_fault, store_faults, verdict}
+use Rattle.command.specs.Cells.{command_in, row_fault}
+use Rattle.store.specs.Faults.{first_fault, out_fault, room_fault, store_faults, verdict}
 use Rattle.guarantees.specs.Calls.{Call, answer}
 use Rattle.guarantees.specs.Faithful.{call_faults, next, out_after, planned, withheld}
 use Rattle.guarantees.specs.Rows.{clean_row}
@@ -70,7 +70,7 @@ answered_by t k rest out p =
     record { reply = reply_of (outcome_by t k p); store = clean_row t (image t (state_by k p)) rest; out = out_after (outcome_by t k p) out }
 
 abbrev pub refused_by : List ℕ → List ℕ → Refusal → Applied
-refused_by xs out r = record { reply = Refused r; store = xs; out = out }
+refused_by xs out r = record { reply = Err r; store = xs; out = out }
 
 same_applied : (a b : Applied) → a.reply ≡ b.reply → a.store ≡ b.store → a.out ≡ b.out → a ≡ b
 same_applied a b p q r =
@@ -154,7 +154,7 @@ pub record Heard (t : Terms) (k : Reference) (rest : List ℕ) (c : Call) : Type
 -- Or it does not: something is wrong with the store, or there is no room and nothing else is wrong.
 pub record Withheld (t : Terms) (k : Reference) (rest : List ℕ) (c : Call) : Type 0 where
   pub refusal : Refusal
-  pub unheard : withheld (Refused refusal) ≡ true
+  pub unheard : withheld (Err refusal) ≡ true
   pub answered : answer (clean_row t (image t k) rest) c ≡ refused_by (clean_row t (image t k) rest) c.out refusal
   pub bad : number refusal ≡ 1 → AllByRecursion (λ f. f ≡ None) (store_faults (clean_row t (image t k) rest)) → ⊥
   pub full : number refusal ≡ 7 → AllByRecursion (λ f. f ≡ None) (call_faults t c)
@@ -173,7 +173,7 @@ module _ (t : Terms) (k : Reference) (s : Standing t k) (rest : List ℕ) (c : C
       let one : number b.refusal ≡ 1 = ap number b.kind.1 in
       record {
         refusal = b.refusal;
-        unheard = ap (λ (r : Refusal). withheld (Refused r)) b.kind.1;
+        unheard = ap (λ (r : Refusal). withheld (Err r)) b.kind.1;
         answered = ap (applied_by row_of_it c.out) e;
         bad = λ _ sound. let z : ◌≡◌ {A = ℕ} 0 1 = cc (b.first {X = ℕ} (Ok 0), first_none {X = ℕ} (store_faults row_of_it) (Ok 0) sound) in omega arith;
         full = λ o. absurd (omega arith);
@@ -198,7 +198,7 @@ module _ (t : Terms) (k : Reference) (s : Standing t k) (rest : List ℕ) (c : C
       let seven : number f.0 ≡ 7 = ap number f.1.1 in
       record {
         refusal = f.0;
-        unheard = ap (λ (r : Refusal). withheld (Refused r)) f.1.1;
+        unheard = ap (λ (r : Refusal). withheld (Err r)) f.1.1;
         answered = ap (applied_by row_of_it c.out) e;
         bad = λ o. absurd (omega arith);
         full = λ _. fine;

@@ -7,7 +7,8 @@ use Rattle.model.specs.Reference.{Reference}
 use Rattle.model.proofs.Mirror.{image}
 use Rattle.store.specs.Applied.{Applied}
 use Rattle.store.specs.Contents.{header_of}
-use Rattle.store.specs.Faults.{command_in, room_fault, store_faults}
+use Rattle.command.specs.Cells.{command_in}
+use Rattle.store.specs.Faults.{room_fault, store_faults}
 use Rattle.guarantees.specs.Calls.{Call, answer}
 use Rattle.guarantees.specs.Faithful.{call_faults, withheld}
 use Rattle.guarantees.specs.Rows.{clean_row}

@@ -1,10 +1,9 @@
 -- What holds at any time: after any calls, on a row that began as an empty store.
-use Rattle.std.specs.Prelude.{◌≡◌, ℕ, ◌+◌, ◌^◌, ◌<◌, ◌≤◌, min, List, length, drop, Some, sum_by, ◌≢◌}
+use Rattle.std.specs.Prelude.{Err, ◌≡◌, ℕ, ◌+◌, ◌^◌, ◌<◌, ◌≤◌, min, List, length, drop, Some, sum_by, ◌≢◌}
 use Rattle.visit.specs.declared.Reading.{Reading}
 use Rattle.visit.specs.declared.Terms.{Terms}
 use Rattle.command.specs.declared.Command.TheVariants.{Reading as AReading, Watermark}
 use Rattle.command.specs.declared.Refusal.{Refusal}
-use Rattle.command.specs.declared.Reply.TheVariants.{Refused}
 use Rattle.command.specs.Bounds.{terms_fault}
 use Rattle.command.specs.Numbers.{reply_number}
 use Rattle.model.specs.Kept.{Holds}
@@ -14,7 +13,7 @@ use Rattle.model.specs.Right.{Right}
 use Rattle.model.specs.Sessions.{visits}
 use Rattle.rows.specs.Limits.{count_limit, sum_limit}
 use Rattle.store.specs.Contents.{empty_row, header_in, store_in}
-use Rattle.store.specs.Faults.{command_in}
+use Rattle.command.specs.Cells.{command_in}
 use Rattle.store.specs.Layout.{lines_room, readings_room, store_size, visits_room}
 use Rattle.guarantees.specs.Calls.{Call, answer, row_left}
 use Rattle.guarantees.specs.Faithful.{reference_left}
@@ -83,4 +82,4 @@ ReadingHasRoom =
 -- With terms out of bounds every call is refused for them.
 abbrev pub BadTermsRefused : Type 0
 BadTermsRefused =
-    (t : Terms) (xs : List ℕ) (before : List Call) (c : Call) (r : Refusal) → terms_fault t ≡ Some r → (answer (row_now t xs before) c).reply ≡ Refused r
+    (t : Terms) (xs : List ℕ) (before : List Call) (c : Call) (r : Refusal) → terms_fault t ≡ Some r → (answer (row_now t xs before) c).reply ≡ Err r

@@ -7,7 +7,7 @@ use Rattle.model.specs.Cards.{of_cards}
 use Rattle.model.specs.Reference.{closed_of}
 use Rattle.model.specs.Store.{Store}
 use Rattle.store.specs.Contents.{empty_row, store_in}
-use Rattle.store.specs.Faults.{command_in}
+use Rattle.command.specs.Cells.{command_in}
 use Rattle.guarantees.specs.AnyTime.{reference_now, row_now}
 use Rattle.guarantees.specs.Calls.{Call, answer}
 use Rattle.guarantees.specs.Following.{outcome_read, outcomes_read}

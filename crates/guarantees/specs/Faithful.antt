@@ -3,14 +3,14 @@ use Rattle.std.specs.Prelude.{◌≡◌, ℕ, Bool, false, cond, ◌||◌, List,
 use Rattle.std.specs.List.{AllByRecursion}
 use Rattle.visit.specs.declared.Terms.{Terms}
 use Rattle.command.specs.declared.Refusal.{Refusal}
-use Rattle.command.specs.declared.Reply.{Reply}
+use Rattle.command.specs.Numbers.{Reply, reply_number}
 use Rattle.command.specs.Bounds.{terms_fault}
-use Rattle.command.specs.Numbers.{reply_number}
 use Rattle.command.specs.Outcomes.{Outcome, reply_of}
 use Rattle.model.specs.Reference.{Reference, empty, ledger_of, outcome_by, plan, state_by}
 use Rattle.store.specs.Applied.{Applied}
 use Rattle.store.specs.Contents.{empty_row, store_in}
-use Rattle.store.specs.Faults.{command_in, first_fault, out_fault, row_fault}
+use Rattle.command.specs.Cells.{command_in, row_fault}
+use Rattle.store.specs.Faults.{first_fault, out_fault}
 use Rattle.changes.specs.Out.{outcome_row, overlay}
 use Rattle.guarantees.specs.Calls.{Call, answer}
 

@@ -1,17 +1,15 @@
 -- How much one call changes, by the numbers in `out`.
-use Rattle.std.specs.Prelude.{◌≡◌, ℕ, ◌≤◌, List, [], ◌∷◌, drop, filter}
+use Rattle.std.specs.Prelude.{Ok, ◌≡◌, ℕ, ◌≤◌, List, [], ◌∷◌, drop, filter}
 use Rattle.visit.specs.declared.Reading.{Reading}
 use Rattle.visit.specs.declared.Terms.{Terms}
 use Rattle.command.specs.declared.Command.TheVariants.{Reading as AReading, Watermark}
-use Rattle.command.specs.declared.Reply.TheVariants.{Done}
 use Rattle.model.specs.Few.{became, met}
 use Rattle.model.specs.Reference.{Reference}
 use Rattle.model.specs.Sessions.{closed_visits}
 use Rattle.changes.specs.Changed.{newly_closed}
-use Rattle.changes.specs.Out.{head_width}
-use Rattle.ledger.specs.Out.{gone_count, gone_in, new_count, new_in}
+use Rattle.rows.specs.Out.{out_head, gone_count, gone_in, new_count, new_in}
 use Rattle.store.specs.Contents.{header_in, store_in, terms_in}
-use Rattle.store.specs.Faults.{command_in}
+use Rattle.command.specs.Cells.{command_in}
 use Rattle.guarantees.specs.AnyTime.{reference_now, row_now}
 use Rattle.guarantees.specs.Calls.{Call, answer}
 
@@ -26,20 +24,20 @@ pub record FewWritten (t : Terms) (k : Reference) (e : Reading) (out : List ℕ)
 abbrev pub RowFewChanges : Type 0
 RowFewChanges =
     (t : Terms) (xs : List ℕ) (before : List Call) (c : Call) (e : Reading) (n : ℕ)
-    → command_in c.command ≡ AReading e → (answer (row_now t xs before) c).reply ≡ Done n
+    → command_in c.command ≡ AReading e → (answer (row_now t xs before) c).reply ≡ Ok n
     → FewWritten t (reference_now t xs before) e (answer (row_now t xs before) c).out
 
 -- A reading that is not behind the watermark in the row changes nothing that is closed: two counts of 0, and all else in `out` as it was.
 abbrev pub RowOnTime : Type 0
 RowOnTime =
     (t : Terms) (xs : List ℕ) (before : List Call) (c : Call) (e : Reading) (n : ℕ)
-    → command_in c.command ≡ AReading e → (header_in (row_now t xs before)).watermark ≤ e.time → (answer (row_now t xs before) c).reply ≡ Done n
-    → (n ≡ 0) × ((answer (row_now t xs before) c).out ≡ 0 ∷ 0 ∷ drop head_width c.out)
+    → command_in c.command ≡ AReading e → (header_in (row_now t xs before)).clock.watermark ≤ e.time → (answer (row_now t xs before) c).reply ≡ Ok n
+    → (n ≡ 0) × ((answer (row_now t xs before) c).out ≡ 0 ∷ 0 ∷ drop out_head c.out)
 
 -- A watermark that is done retracts nothing and adds the live visits that it closes, in their order. This holds on any row at all.
 abbrev pub RowWatermarkAdds : Type 0
 RowWatermarkAdds =
     (xs : List ℕ) (c : Call) (m n : ℕ)
-    → command_in c.command ≡ Watermark m → (answer xs c).reply ≡ Done n
+    → command_in c.command ≡ Watermark m → (answer xs c).reply ≡ Ok n
     → (gone_count (answer xs c).out ≡ 0)
-    × (new_in (answer xs c).out ≡ filter (newly_closed (terms_in xs) (header_in xs).watermark m) (store_in xs).live)
+    × (new_in (answer xs c).out ≡ filter (newly_closed (terms_in xs) (header_in xs).clock.watermark m) (store_in xs).live)

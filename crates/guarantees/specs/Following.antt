@@ -1,14 +1,13 @@
 -- What has changed, by what the calls write to `out`: one who only follows that has the closed visits.
-use Rattle.std.specs.Prelude.{◌≡◌, ℕ, ◌+◌, List, [], map}
+use Rattle.std.specs.Prelude.{Err, Ok, ◌≡◌, ℕ, ◌+◌, List, [], map}
 use Rattle.visit.specs.declared.Terms.{Terms}
 use Rattle.visit.specs.declared.Visit.{Visit}
-use Rattle.command.specs.declared.Reply.{Reply}
-use Rattle.command.specs.declared.Reply.TheVariants.{Done, Refused}
+use Rattle.command.specs.Numbers.{Reply}
 use Rattle.command.specs.Outcomes.{Outcome, changed, refused}
 use Rattle.model.specs.AddsUp.{AllSound, applied_all}
 use Rattle.model.specs.Ledger.{totals}
 use Rattle.model.specs.Reference.{closed_of}
-use Rattle.ledger.specs.Out.{gone_count, gone_in, new_count, new_in}
+use Rattle.rows.specs.Out.{gone_count, gone_in, new_count, new_in}
 use Rattle.store.specs.Applied.{Applied}
 use Rattle.store.specs.Contents.{empty_row, store_in}
 use Rattle.guarantees.specs.AnyTime.{reference_now, row_now}
@@ -16,8 +15,8 @@ use Rattle.guarantees.specs.Calls.{Call, answer, answers}
 
 -- What an answer says: the visits that stand in `out` as retracted and as added if the command was done, or the refusal.
 abbrev pub read_from : Reply → List ℕ → Outcome
-read_from (Done n) out = changed (gone_in out) (new_in out)
-read_from (Refused r) out = refused r
+read_from (Ok n) out = changed (gone_in out) (new_in out)
+read_from (Err r) out = refused r
 
 abbrev pub outcome_read : Applied → Outcome
 outcome_read a = read_from a.reply a.out
@@ -28,7 +27,7 @@ outcomes_read xs calls = map outcome_read (answers xs calls)
 -- On any row, a command that is done answers how many visits stand in `out`.
 abbrev pub ReplyCounts : Type 0
 ReplyCounts =
-    (xs : List ℕ) (c : Call) (n : ℕ) → (answer xs c).reply ≡ Done n → n ≡ gone_count (answer xs c).out + new_count (answer xs c).out
+    (xs : List ℕ) (c : Call) (n : ℕ) → (answer xs c).reply ≡ Ok n → n ≡ gone_count (answer xs c).out + new_count (answer xs c).out
 
 -- The visits that one has who starts with none and at each answer takes out what is retracted and puts in what is added.
 abbrev pub visits_followed : Terms → List ℕ → List Call → List Visit

@@ -1,19 +1,18 @@
 -- Nothing is kept in vain: each row of live visits and of kept readings is needed.
-use Rattle.std.specs.Prelude.{◌≡◌, ℕ, ◌≤◌, false, List, ◌∷◌, length, None}
+use Rattle.std.specs.Prelude.{Err, ◌≡◌, ℕ, ◌≤◌, false, List, ◌∷◌, length, None}
 use Rattle.std.specs.List.{ContainsAt as Has, AllByRecursion}
 use Rattle.visit.specs.declared.Reading.{Reading}
 use Rattle.visit.specs.declared.Terms.{Terms}
 use Rattle.visit.specs.declared.Visit.{Visit}
 use Rattle.command.specs.declared.Command.TheVariants.{Reading as AReading}
 use Rattle.command.specs.declared.Refusal.TheVariants.{Duplicate}
-use Rattle.command.specs.declared.Reply.TheVariants.{Refused}
 use Rattle.command.specs.Numbers.{reply_number}
 use Rattle.model.specs.Kept.{ChangesVisit}
 use Rattle.rows.specs.Readings.{reading_cells}
 use Rattle.changes.specs.Room.{out_width}
 use Rattle.store.specs.declared.capacity.Capacity.{Capacity}
 use Rattle.store.specs.Contents.{store_in}
-use Rattle.store.specs.Faults.{command_in}
+use Rattle.command.specs.Cells.{command_in}
 use Rattle.guarantees.specs.AnyTime.{row_now}
 use Rattle.guarantees.specs.Calls.{Call, answer}
 use Rattle.guarantees.specs.Faithful.{call_faults, withheld}
@@ -49,7 +48,7 @@ pub record RefusedAgain (t : Terms) (xs : List ℕ) (e : Reading) : Type 0 where
   pub bounds : WithinBounds t e
   pub again :
       (n : ℕ) (c : Call) → HandsOver t (with_amount n e) c → withheld (answer xs c).reply ≡ false
-      → (answer xs c).reply ≡ Refused (Duplicate e.time)
+      → (answer xs c).reply ≡ Err (Duplicate e.time)
 
 pub record AllNeeded (t : Terms) (xs : List ℕ) : Type 0 where
   pub visits : AllByRecursion (RowMayChange t xs) (store_in xs).live

@@ -6,7 +6,7 @@ use Rattle.command.specs.declared.Command.{Command}
 use Rattle.command.specs.Outcomes.{Outcome, reply_of}
 use Rattle.model.specs.Reference.{Reference, bounded_after, bounded_outcomes, empty, ledger_of}
 use Rattle.store.specs.Contents.{empty_row, store_in}
-use Rattle.store.specs.Faults.{command_in, command_width, known_kind}
+use Rattle.command.specs.Cells.{command_in, command_width, known_kind}
 use Rattle.changes.specs.Room.{out_width}
 use Rattle.guarantees.specs.Calls.{Call, answers, row_left}
 use Rattle.guarantees.specs.Faithful.{out_after, withheld}

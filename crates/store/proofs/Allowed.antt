@@ -22,7 +22,8 @@ use Rattle.rows.specs.Lines.{line_cells, line_limits}
 use Rattle.rows.specs.Visits.{visit_cells, visit_limits}
 use Rattle.rows.proofs.Overs.{mapped_none}
 use Rattle.ledger.specs.Fits.{Fits, FitsIn}
-use Rattle.live.specs.Tables.{counts, open_only, sums}
+use Rattle.visit.specs.Sums.{counts, sums}
+use Rattle.live.specs.Tables.{open_only}
 use Rattle.live.proofs.Parts.{length_merged, length_parts}
 use Rattle.changes.specs.Changed.{newly_closed}
 use Rattle.changes.proofs.Counts.{merging_fewer}
@@ -116,7 +117,7 @@ module _ (h : Header) (s : Store) (w : Within h s) where
 
   pub reading_allowed : (cap : Capacity) (e : Reading) → command_fault (AReading e) ≡ None → room_fault cap h s (AReading e) ≡ None → Performable h s (AReading e)
   reading_allowed cap e bounds room =
-      let t = h.terms in
+      let t = h.clock.terms in
       let vs = s.live in
       let card = passes (ltb e.card word_limit) _ 1 (mapped_none BadCommand (first_field 1 (fields (AReading e))) bounds) in
       let time = passes (ltb e.time time_limit) _ 2 card.1 in
@@ -140,11 +141,11 @@ module _ (h : Header) (s : Store) (w : Within h s) where
         fits = fits_lines _ _ s.ledger (omega (arith, few)) (omega (arith, added_sum, merged_sum, sums_fit)) w.ledger;
       }
 
-  pub watermark_allowed : (cap : Capacity) (m : ℕ) → room_fault cap h s (Watermark m) ≡ None → h.watermark ≤ m → s.watermark ≡ h.watermark → Performable h s (Watermark m)
+  pub watermark_allowed : (cap : Capacity) (m : ℕ) → room_fault cap h s (Watermark m) ≡ None → h.clock.watermark ≤ m → s.watermark ≡ h.clock.watermark → Performable h s (Watermark m)
   watermark_allowed cap m room order same =
-      let t = h.terms in
+      let t = h.clock.terms in
       let vs = s.live in
-      let l_room : h.lines + length (open_only t h.watermark vs) ≤ lines_room = leb-true _ _ (passes (leb (h.lines + length (open_only t h.watermark vs)) lines_room) None (Full 6) room).0 in
+      let l_room : h.lines + length (open_only t h.clock.watermark vs) ≤ lines_room = leb-true _ _ (passes (leb (h.lines + length (open_only t h.clock.watermark vs)) lines_room) None (Full 6) room).0 in
       let few = new_few t s.watermark m vs (omega arith) in
       let still = ap (λ k. length (open_only t k vs)) same in
       let less = kept_shorter (λ v. not (closed t s.watermark v)) vs in

@@ -15,9 +15,10 @@ use Rattle.rows.proofs.Holding.{holding_again, holding_rows}
 use Rattle.rows.proofs.Splits.{rows_of_cells}
 use Rattle.changes.specs.Out.{change_row, overlay}
 use Rattle.changes.proofs.Counts.{length_change_row}
-use Rattle.ledger.specs.Fits.{Fits, sums}
-use Rattle.ledger.specs.Out.{gone_in, new_count, new_in, out_end}
-use Rattle.ledger.specs.Table.{lines_in}
+use Rattle.visit.specs.Sums.{sums}
+use Rattle.ledger.specs.Fits.{Fits}
+use Rattle.rows.specs.Out.{gone_in, new_count, new_in, out_end}
+use Rattle.rows.specs.Lines.{lines_in}
 use Rattle.store.specs.declared.header.Header.{Header}
 use Rattle.store.specs.Contents.{parts_after, store_of}
 use Rattle.store.specs.Header.{header_cells}
@@ -53,10 +54,10 @@ filtered_again {w = w} {cells = cells} laws f n rs xs few =
     ∙ holding_again laws k (length rs) rs (f rs) xs (omega arith) (omega arith) few
     ∙ ap (λ m. holding w cells m (f rs) xs) top
 
-pub ends : (h : Header) (d : Draft) (p : Parts) → finished_parts (drafted_header h d) (gone_of h.terms (store_of h p) d) (new_of h.terms (store_of h p) d) (drafted_parts h d p)
-    ≡ parts_after h d (finish h.terms (store_of h p) d) p
+pub ends : (h : Header) (d : Draft) (p : Parts) → finished_parts (drafted_header h d) (gone_of h.clock.terms (store_of h p) d) (new_of h.clock.terms (store_of h p) d) (drafted_parts h d p)
+    ≡ parts_after h d (finish h.clock.terms (store_of h p) d) p
 ends h d p =
-    let t = h.terms in
+    let t = h.clock.terms in
     let m = d.watermark in
     let s = finish t (store_of h p) d in
     let visits = ap (λ l. length (live_only t m l)) (holding_rows visit_laws (max h.visits (length d.live)) d.live p.visits) in
@@ -70,10 +71,10 @@ ends h d p =
 -- The counts and visits in `out` once the changes stand in it.
 module _ (h : Header) (d : Draft) (p q : Parts) (k : Header) (out row : List ℕ) where
   abbrev gone : List Visit
-  gone = gone_of h.terms (store_of h p) d
+  gone = gone_of h.clock.terms (store_of h p) d
 
   abbrev new : List Visit
-  new = new_of h.terms (store_of h p) d
+  new = new_of h.clock.terms (store_of h p) d
 
   module _ (head : k ≡ drafted_header h d) (tables : q ≡ drafted_parts h d p) (told : row ≡ overlay (change_row gone new) out) where
     pub new_counted : new_count row ≡ length new
@@ -92,7 +93,7 @@ module _ (h : Header) (d : Draft) (p q : Parts) (k : Header) (out row : List ℕ
         (subst (λ (vs : List Visit). Fits (length new) (sums vs) (lines_in k.lines q.lines)) (sym added)
         (subst (λ (ls : List Line). Fits (length new) (sums new) ls) (sym lines) fits))
 
-    pub ended : (r : Parts) → r ≡ finished_parts k (gone_in row) (new_in row) q → r ≡ parts_after h d (finish h.terms (store_of h p) d) p
+    pub ended : (r : Parts) → r ≡ finished_parts k (gone_in row) (new_in row) q → r ≡ parts_after h d (finish h.clock.terms (store_of h p) d) p
     ended r e =
         e ∙ ap (λ (x : Header). finished_parts x (gone_in row) (new_in row) q) head ∙ ap (λ (x : Parts). finished_parts (drafted_header h d) (gone_in row) (new_in row) x) tables
         ∙ ap (λ l. finished_parts (drafted_header h d) l (new_in row) (drafted_parts h d p)) (ap gone_in told ∙ gone_written gone new out)

@@ -10,3 +10,4 @@ pub mod Ending
 pub mod Allowed
 pub mod Verdicts
 pub mod Emptying
+pub mod Views

@@ -2,19 +2,14 @@
 use Rattle.std.proofs.Common.{◌≡◌, ℕ, List, [], ◌∷◌, ◌++◌, Some, None, Ok, Err, Option, Result, sym, refl, ap, ◌∙◌, arith}
 use Rattle.std.specs.List.{AllByRecursion}
 use Rattle.command.specs.declared.Refusal.{Refusal}
-use Rattle.command.specs.Bounds.{terms_fault}
 use Rattle.model.specs.Store.{Draft, draft}
 use Rattle.store.specs.declared.capacity.Capacity.{Capacity}
 use Rattle.store.specs.declared.checks.Ready.{Ready}
-use Rattle.store.specs.Checks.{checked, command_checked, made_ready, refusal_of, sound_terms, then, with_out}
+use Rattle.store.specs.Checks.{checked, refusal_of}
 use Rattle.store.specs.Contents.{header_in, store_in, terms_in}
-use Rattle.store.specs.Faults.{command_in, faults, first_fault, out_fault, row_fault, store_faults, verdict, watermark_fault}
+use Rattle.command.specs.Cells.{command_in}
+use Rattle.store.specs.Faults.{faults, first_fault, verdict}
 use Rattle.store.proofs.Places.{no_fault, no_fault_is}
-
-pub then_fault : {X Y : Type 0} (fs : List (Option Refusal)) (x : X) (f : X → Result Y Refusal) → then (first_fault fs (Ok x)) f ≡ first_fault fs (f x)
-then_fault [] x f = refl
-then_fault (None ∷ fs) x f = then_fault fs x f
-then_fault (Some r ∷ fs) x f = refl
 
 -- The refusal of a draft, if it is one, and the draft, if it is none.
 pub no_refusal : {X : Type 0} (r : Result X Refusal) → refusal_of r ≡ None → (x : X) × (r ≡ Ok x)
@@ -36,16 +31,7 @@ module _ (cap : Capacity) (xs cs : List ℕ) (out : ℕ) where
 
   pub checked_is : checked cap xs cs out ≡ first_fault (faults cap xs cs out ++ (refusal_of drafted ∷ [])) (Ok passing)
   unfolding checked
-  checked_is =
-      let h = header_in xs in
-      let c = command_in cs in
-      let of_store = store_faults xs in
-      let of_terms = terms_fault (terms_in xs) ∷ watermark_fault h ∷ [] in
-      let of_command = row_fault cs ∷ out_fault out ∷ [] in
-      let on = command_checked cap xs cs out in
-      let ready = made_ready cap h (store_in xs) in
-      ap (λ a. then a on) (then_fault of_store h sound_terms) ∙ then_fault (of_store ++ of_terms) h on
-      ∙ ap (first_fault (of_store ++ of_terms)) (ap (λ a. then a ready) (then_fault (row_fault cs ∷ []) c (with_out out)) ∙ then_fault of_command c ready)
+  checked_is = refl
 
   pub refused_by : (r : Refusal) → Err r ≡ checked cap xs cs out → verdict cap xs cs out ≡ Err r
   refused_by r e = refused_too (faults cap xs cs out) passing r drafted (sym (e ∙ checked_is))

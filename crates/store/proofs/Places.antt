@@ -3,6 +3,7 @@ use Rattle.std.proofs.Common.{◌≡◌, ℕ, ◌+◌, Bool, true, false, cond, 
 use Rattle.std.specs.Option.{option_map}
 use Rattle.std.specs.List.{AllByRecursion}
 use Rattle.command.specs.declared.Refusal.{Refusal}
+use Rattle.command.specs.Bounds.{unless}
 use Rattle.model.specs.Reference.{or_fault}
 use Rattle.rows.specs.Limits.{first_over}
 use Rattle.rows.proofs.Overs.{over_shift}
@@ -36,6 +37,24 @@ pub fault_at : {X : Type 0} (fs gs : List (Option Refusal)) (f : Option Refusal)
     → first_fault (fs ++ (f ∷ gs)) y ≡ Err r
 fault_at [] gs f r y a e = ap (λ o. or_fault o (first_fault gs y)) e
 fault_at (g ∷ fs) gs f r y a e = ap (λ o. or_fault o (first_fault (fs ++ (f ∷ gs)) y)) a.0 ∙ fault_at fs gs f r y a.1 e
+
+-- Checks one after another, and one check alone.
+pub first_both : {X : Type 0} (fs gs : List (Option Refusal)) (y : Result X Refusal) → first_fault (fs ++ gs) y ≡ first_fault fs (first_fault gs y)
+first_both [] gs y = refl
+first_both (f ∷ fs) gs y = ap (or_fault f) (first_both fs gs y)
+
+pub unless_is : {X : Type 0} (f : Option Refusal) (x : X) → unless f x ≡ first_fault (f ∷ []) (Ok x)
+unless_is None x = refl
+unless_is (Some r) x = refl
+
+pub none_of : {X : Type 0} (f : Option Refusal) (x z : X) → Ok z ≡ unless f x → AllByRecursion (λ f. f ≡ None) (f ∷ [])
+none_of f x z e = no_fault (f ∷ []) x z (sym (e ∙ unless_is f x))
+
+-- Where the checks in front found nothing, what the next ones refuse is what comes of all.
+pub stops : {X Y : Type 0} (fs gs rest : List (Option Refusal)) (x : X) (y : Result Y Refusal) (r : Refusal) → AllByRecursion (λ f. f ≡ None) fs
+    → Err r ≡ first_fault gs (Ok x) → Err r ≡ first_fault (fs ++ (gs ++ rest)) y
+stops fs gs rest x y r a e =
+    sym (first_both fs (gs ++ rest) y ∙ none_found fs (first_fault (gs ++ rest) y) a ∙ first_both gs rest y ∙ fault_stands gs x (first_fault rest y) r (sym e))
 
 pub refusal_cond : {X : Type 0} (b : Bool) (r : Refusal) (x : X) → refusal_of (cond b (Err r) (Ok x)) ≡ cond b (Some r) None
 refusal_cond true r x = refl

@@ -9,7 +9,6 @@ use Rattle.command.specs.declared.Command.{Command}
 use Rattle.command.specs.declared.Command.TheVariants.{Reading as AReading, Watermark}
 use Rattle.command.specs.declared.Refusal.{Refusal}
 use Rattle.command.specs.declared.Refusal.TheVariants.{BadCommand, BadStore, Backwards, Duplicate, ShortOut, TooLate}
-use Rattle.command.specs.declared.Reply.TheVariants.{Done}
 use Rattle.command.specs.Bounds.{command_fault}
 use Rattle.command.specs.Outcomes.{reply_of}
 use Rattle.model.specs.Sessions.{contains}
@@ -27,7 +26,8 @@ use Rattle.store.specs.declared.header.Header.{Header}
 use Rattle.store.specs.Applied.{outcome_in, row_by}
 use Rattle.store.specs.Checks.{refusal_of}
 use Rattle.store.specs.Contents.{header_in, parts_after, store_in, store_of, terms_in}
-use Rattle.store.specs.Faults.{command_in, faults, known_kind, room_fault, verdict}
+use Rattle.command.specs.Cells.{command_in, known_kind}
+use Rattle.store.specs.Faults.{faults, room_fault, verdict}
 use Rattle.store.specs.Layout.{lines_at, readings_at, store_size, visits_at}
 use Rattle.store.specs.Parts.{parts}
 use Rattle.store.specs.Steps.{Performable, changes_of, draft_of}
@@ -59,11 +59,11 @@ draft_stands t s (Watermark m) none =
     let back = spared_too (ltb m s.watermark) (Backwards m) (Ok (draft_of t s (Watermark m))) none in
     rw back.0
 
-pub allowed_for : (cap : Capacity) (h : Header) (s : Store) → Within h s → s.watermark ≡ h.watermark → (c : Command) → command_fault c ≡ None → room_fault cap h s c ≡ None
-    → refusal_of (draft h.terms s c) ≡ None → Performable h s c
+pub allowed_for : (cap : Capacity) (h : Header) (s : Store) → Within h s → s.watermark ≡ h.clock.watermark → (c : Command) → command_fault c ≡ None → room_fault cap h s c ≡ None
+    → refusal_of (draft h.clock.terms s c) ≡ None → Performable h s c
 allowed_for cap h s w same (AReading e) bounds room rules = reading_allowed h s w cap e bounds room
 allowed_for cap h s w same (Watermark m) bounds room rules =
-    let back = spared_too (ltb m s.watermark) (Backwards m) (Ok (draft_of h.terms s (Watermark m))) rules in
+    let back = spared_too (ltb m s.watermark) (Backwards m) (Ok (draft_of h.clock.terms s (Watermark m))) rules in
     watermark_allowed h s w cap m room (omega (arith, ltb-false _ _ back.0)) same
 
 module _ (cap : Capacity) (xs cs : List ℕ) (out : ℕ) (q : Ready) (ok : Passed cap xs cs out q) where
@@ -98,28 +98,28 @@ module _ (cap : Capacity) (xs cs : List ℕ) (out : ℕ) (q : Ready) (ok : Passe
       subst (λ (k : Header). Performable k (store_of k (parts xs)) q.command) (sym ok.header)
       (subst (λ (k : Command). Performable h (store_in xs) k) (sym ok.command) base)
 
-  pub verdict_is : verdict cap xs cs out ≡ Ok (draft_of q.header.terms (store_of q.header (parts xs)) q.command)
+  pub verdict_is : verdict cap xs cs out ≡ Ok (draft_of q.header.clock.terms (store_of q.header (parts xs)) q.command)
   verdict_is =
       let fs = faults cap xs cs out in
       let none = all_front (λ f. f ≡ None) fs (refusal_of (draft (terms_in xs) (store_in xs) (command_in cs)) ∷ []) ok.none in
       none_found fs (draft (terms_in xs) (store_in xs) (command_in cs)) none
       ∙ draft_stands (terms_in xs) (store_in xs) (command_in cs) ok.none.1.1.1.1.1.1.1.1.1.1.0
       ∙ ap (λ (k : Command). Ok (draft_of (terms_in xs) (store_in xs) k)) (sym ok.command)
-      ∙ ap (λ (k : Header). Ok (draft_of k.terms (store_of k (parts xs)) q.command)) (sym ok.header)
+      ∙ ap (λ (k : Header). Ok (draft_of k.clock.terms (store_of k (parts xs)) q.command)) (sym ok.header)
 
   -- What was carried out is what the definition says.
   abbrev d : Draft
-  d = draft_of q.header.terms (store_of q.header (parts xs)) q.command
+  d = draft_of q.header.clock.terms (store_of q.header (parts xs)) q.command
 
-  pub reply_is : (n : ℕ) → n ≡ outcome_count (changes_of q.header.terms (store_of q.header (parts xs)) d) → Done n ≡ reply_of (outcome_in xs (verdict cap xs cs out))
+  pub reply_is : (n : ℕ) → n ≡ outcome_count (changes_of q.header.clock.terms (store_of q.header (parts xs)) d) → Ok n ≡ reply_of (outcome_in xs (verdict cap xs cs out))
   reply_is n e =
-      ap Done (e ∙ ap (λ (k : Header). outcome_count (changes_of k.terms (store_of k (parts xs)) d)) ok.header) ∙ sym (ap (λ v. reply_of (outcome_in xs v)) verdict_is)
+      ap Ok (e ∙ ap (λ (k : Header). outcome_count (changes_of k.clock.terms (store_of k (parts xs)) d)) ok.header) ∙ sym (ap (λ v. reply_of (outcome_in xs v)) verdict_is)
 
-  pub store_is : (ys : List ℕ) → parts ys ≡ parts_after q.header d (finish q.header.terms (store_of q.header (parts xs)) d) (parts xs) → ys ≡ row_by xs (verdict cap xs cs out)
+  pub store_is : (ys : List ℕ) → parts ys ≡ parts_after q.header d (finish q.header.clock.terms (store_of q.header (parts xs)) d) (parts xs) → ys ≡ row_by xs (verdict cap xs cs out)
   store_is ys e =
-      whole_from ys _ (e ∙ ap (λ (k : Header). parts_after k d (finish k.terms (store_of k (parts xs)) d) (parts xs)) ok.header) ∙ sym (ap (row_by xs) verdict_is)
+      whole_from ys _ (e ∙ ap (λ (k : Header). parts_after k d (finish k.clock.terms (store_of k (parts xs)) d) (parts xs)) ok.header) ∙ sym (ap (row_by xs) verdict_is)
 
-  pub out_is : (row zs : List ℕ) → zs ≡ overlay (outcome_row (changes_of q.header.terms (store_of q.header (parts xs)) d)) row
+  pub out_is : (row zs : List ℕ) → zs ≡ overlay (outcome_row (changes_of q.header.clock.terms (store_of q.header (parts xs)) d)) row
       → zs ≡ overlay (outcome_row (outcome_in xs (verdict cap xs cs out))) row
   out_is row zs e =
-      e ∙ ap (λ (k : Header). overlay (outcome_row (changes_of k.terms (store_of k (parts xs)) d)) row) ok.header ∙ sym (ap (λ v. overlay (outcome_row (outcome_in xs v)) row) verdict_is)
+      e ∙ ap (λ (k : Header). overlay (outcome_row (changes_of k.clock.terms (store_of k (parts xs)) d)) row) ok.header ∙ sym (ap (λ v. overlay (outcome_row (outcome_in xs v)) row) verdict_is)

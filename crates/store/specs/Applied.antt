@@ -2,8 +2,7 @@
 use Rattle.std.specs.Prelude.{ℕ, List, [], ◌∷◌, length, Ok, Err, Result}
 use Rattle.visit.specs.declared.Terms.{Terms}
 use Rattle.command.specs.declared.Refusal.{Refusal}
-use Rattle.command.specs.declared.Reply.{Reply}
-use Rattle.command.specs.declared.Reply.TheVariants.{Done, Refused}
+use Rattle.command.specs.Numbers.{Reply}
 use Rattle.command.specs.Bounds.{terms_fault}
 use Rattle.command.specs.Outcomes.{Outcome, reply_of}
 use Rattle.model.specs.Store.{Draft, finish, store_outcome_by}
@@ -44,8 +43,8 @@ abbrev pub opening : List ℕ → Terms → Result Terms Refusal
 opening xs t = first_fault (short_fault xs ∷ terms_fault t ∷ []) (Ok t)
 
 abbrev pub open_reply : Result Terms Refusal → Reply
-open_reply (Ok t) = Done 0
-open_reply (Err r) = Refused r
+open_reply (Ok t) = Ok 0
+open_reply (Err r) = Err r
 
 abbrev pub open_row : List ℕ → Result Terms Refusal → List ℕ
 open_row xs (Ok t) = empty_row t xs

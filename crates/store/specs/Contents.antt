@@ -17,7 +17,7 @@ store_of h p =
     record {
       live = rows_in visit_width visit_made h.visits p.visits;
       seen = rows_in reading_width reading_made h.readings p.readings;
-      watermark = h.watermark;
+      watermark = h.clock.watermark;
       ledger = rows_in line_width line_made h.lines p.lines;
     }
 
@@ -25,7 +25,7 @@ abbrev pub header_in : List ℕ → Header
 header_in xs = header_made xs
 
 abbrev pub terms_in : List ℕ → Terms
-terms_in xs = (header_in xs).terms
+terms_in xs = (header_in xs).clock.terms
 
 abbrev pub store_in : List ℕ → Store
 store_in xs = store_of (header_in xs) (parts xs)
@@ -33,14 +33,14 @@ store_in xs = store_of (header_in xs) (parts xs)
 -- The header of a store.
 abbrev pub header_of : Terms → Store → Header
 header_of t s =
-    record { terms = t; watermark = s.watermark; visits = length s.live; readings = length s.seen; lines = length s.ledger }
+    record { clock = record { terms = t; watermark = s.watermark }; visits = length s.live; readings = length s.seen; lines = length s.ledger }
 
 -- The parts after a command: each table has its new rows, then 0 up to the most rows that it had on the way, then what stood there before.
 -- Live visits and kept readings are most before anything expires; lines are taken away before others are added.
 abbrev pub parts_after : Header → Draft → Store → Parts → Parts
 parts_after h d s p =
     record {
-      header = header_cells (header_of h.terms s);
+      header = header_cells (header_of h.clock.terms s);
       visits = holding visit_width visit_cells (max h.visits (length d.live)) s.live p.visits;
       readings = holding reading_width reading_cells (max h.readings (length d.seen)) s.seen p.readings;
       lines = holding line_width line_cells (max h.lines (length s.ledger)) s.ledger p.lines;

@@ -1,17 +1,18 @@
 -- Why a command is refused before it is looked at by the store's own rules: the checks, each with its place, in their order.
-use Rattle.std.specs.Prelude.{ℕ, ◌+◌, min, Bool, cond, ◌||◌, List, [], ◌∷◌, ◌++◌, length, drop, Some, None, Option, Result, ◌==◌, nat_le, nat_lt, slice_index}
+use Rattle.std.specs.Prelude.{ℕ, ◌+◌, min, cond, List, [], ◌∷◌, ◌++◌, length, Some, None, Option, Result, nat_le, nat_lt}
 use Rattle.std.specs.Option.{option_map}
 use Rattle.std.specs.List.{repeat}
 use Rattle.command.specs.declared.Command.{Command}
 use Rattle.command.specs.declared.Command.TheVariants.{Reading as AReading, Watermark}
 use Rattle.command.specs.declared.Refusal.{Refusal}
-use Rattle.command.specs.declared.Refusal.TheVariants.{BadStore, BadTerms, BadCommand, Full, ShortOut}
-use Rattle.command.specs.Bounds.{command_fault, terms_fault, time_limit}
+use Rattle.command.specs.declared.Refusal.TheVariants.{BadStore, BadTerms, Full, ShortOut}
+use Rattle.command.specs.Bounds.{terms_fault, time_limit}
+use Rattle.command.specs.Cells.{command_in, row_fault}
 use Rattle.model.specs.Reference.{or_fault}
 use Rattle.model.specs.Store.{Draft, Store, draft}
 use Rattle.rows.specs.Limits.{first_over}
 use Rattle.rows.specs.Lines.{line_limits}
-use Rattle.rows.specs.Readings.{reading_limits, reading_made}
+use Rattle.rows.specs.Readings.{reading_limits}
 use Rattle.rows.specs.Visits.{visit_limits}
 use Rattle.live.specs.Tables.{open_only}
 use Rattle.store.specs.declared.header.Header.{Header}
@@ -39,27 +40,8 @@ abbrev pub lines_fault : Header → List ℕ → Option Refusal
 lines_fault h xs = option_map BadStore (first_over lines_at (repeat h.lines line_limits) (parts xs).lines)
 
 -- 2: the terms, and the watermark that stands, at 3.
-abbrev pub watermark_fault : Header → Option Refusal
-watermark_fault h = cond (nat_lt h.watermark time_limit) None (Some (BadTerms 3))
-
--- A command is a kind and four numbers: 0 for a reading; 1 for a watermark, of which only the first number is looked at.
-abbrev pub command_width : ℕ
-command_width = 5
-
-abbrev pub known_kind : ℕ → Bool
-known_kind k = k == 0 || k == 1
-
-abbrev pub command_of : ℕ → List ℕ → Command
-command_of k xs = cond (k == 0) (AReading (reading_made xs)) (Watermark (slice_index xs 0))
-
-abbrev pub command_in : List ℕ → Command
-command_in cs = command_of (slice_index cs 0) (drop 1 cs)
-
--- 3: too few numbers, an unknown kind, or a number out of its bounds.
-abbrev pub row_fault : List ℕ → Option Refusal
-row_fault cs =
-    cond (nat_lt (length cs) command_width) (Some (BadCommand (length cs)))
-    (cond (known_kind (slice_index cs 0)) (command_fault (command_in cs)) (Some (BadCommand 0)))
+abbrev pub watermark_fault : ℕ → Option Refusal
+watermark_fault m = cond (nat_lt m time_limit) None (Some (BadTerms 3))
 
 -- 8: the row for the changes is too short.
 abbrev pub out_fault : ℕ → Option Refusal
@@ -72,7 +54,7 @@ room_fault cap h s (AReading e) =
     (cond (nat_lt h.readings (min cap.readings readings_room)) (cond (nat_lt (h.lines + h.visits) lines_room) None (Some (Full 6))) (Some (Full 5)))
     (Some (Full 4))
 room_fault cap h s (Watermark m) =
-    cond (nat_le (h.lines + length (open_only h.terms h.watermark s.live)) lines_room) None (Some (Full 6))
+    cond (nat_le (h.lines + length (open_only h.clock.terms h.clock.watermark s.live)) lines_room) None (Some (Full 6))
 
 -- The first of several refusals, or else what comes if there is none.
 abbrev pub first_fault : {X : Type 0} → List (Option Refusal) → Result X Refusal → Result X Refusal
@@ -85,11 +67,11 @@ table_faults h xs = visits_fault h xs ∷ readings_fault h xs ∷ lines_fault h 
 abbrev pub store_faults : List ℕ → List (Option Refusal)
 store_faults xs = short_fault xs ∷ counts_fault (header_in xs) ∷ table_faults (header_in xs) xs
 
--- The checks in their order: 1, 2, 3, 8, 7.
+-- The checks in their order: 1, 2, 3 (of the row of the command), 8, 7.
 abbrev pub faults : Capacity → (store command : List ℕ) (out : ℕ) → List (Option Refusal)
 faults cap xs cs out =
     store_faults xs
-    ++ (terms_fault (terms_in xs) ∷ watermark_fault (header_in xs) ∷ row_fault cs ∷ out_fault out ∷ room_fault cap (header_in xs) (store_in xs) (command_in cs) ∷ [])
+    ++ (terms_fault (terms_in xs) ∷ watermark_fault (header_in xs).clock.watermark ∷ row_fault cs ∷ out_fault out ∷ room_fault cap (header_in xs) (store_in xs) (command_in cs) ∷ [])
 
 -- What a command comes to: a refusal, or what it makes of the store. Too late, duplicate and backwards come last, from the draft.
 abbrev pub verdict : Capacity → (store command : List ℕ) (out : ℕ) → Result Draft Refusal

@@ -12,11 +12,11 @@ terms_made xs = record { gap = slice_index xs 0; lateness = slice_index xs 1; da
 
 abbrev pub header_made : List ℕ → Header
 header_made xs =
-    record { terms = terms_made xs; watermark = slice_index xs 3; visits = slice_index xs 4; readings = slice_index xs 5; lines = slice_index xs 6 }
+    record { clock = record { terms = terms_made xs; watermark = slice_index xs 3 }; visits = slice_index xs 4; readings = slice_index xs 5; lines = slice_index xs 6 }
 
 abbrev pub header_cells : Header → List ℕ
 header_cells h =
-    h.terms.gap ∷ h.terms.lateness ∷ h.terms.day ∷ h.watermark ∷ h.visits ∷ h.readings ∷ h.lines ∷ []
+    h.clock.terms.gap ∷ h.clock.terms.lateness ∷ h.clock.terms.day ∷ h.clock.watermark ∷ h.visits ∷ h.readings ∷ h.lines ∷ []
 
 -- A count may be as large as its room. Terms and watermark have bounds of another kind.
 abbrev pub header_limits : List (Option ℕ)

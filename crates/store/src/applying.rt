@@ -22,10 +22,10 @@ fn draft(store: &mut [u64], header: Header, command: Command, out: &mut [u64]) -
     requires counts { Counted header }
     requires draftable { Draftable header (store_of header (parts store.old)) command }
     requires out { out_width ≤ length out.old }
-    ensures header { result.header ≡ drafted_header header (draft_of header.terms (store_of header (parts store.old)) command) }
-    ensures changed { result.changed ≡ outcome_count (changes_of header.terms (store_of header (parts store.old)) (draft_of header.terms (store_of header (parts store.old)) command)) }
-    ensures parts { parts store.new ≡ drafted_parts header (draft_of header.terms (store_of header (parts store.old)) command) (parts store.old) }
-    ensures out { out.new ≡ overlay (outcome_row (changes_of header.terms (store_of header (parts store.old)) (draft_of header.terms (store_of header (parts store.old)) command))) out.old }
+    ensures header { result.header ≡ drafted_header header (draft_of header.clock.terms (store_of header (parts store.old)) command) }
+    ensures changed { result.changed ≡ outcome_count (changes_of header.clock.terms (store_of header (parts store.old)) (draft_of header.clock.terms (store_of header (parts store.old)) command)) }
+    ensures parts { parts store.new ≡ drafted_parts header (draft_of header.clock.terms (store_of header (parts store.old)) command) (parts store.old) }
+    ensures out { out.new ≡ overlay (outcome_row (changes_of header.clock.terms (store_of header (parts store.old)) (draft_of header.clock.terms (store_of header (parts store.old)) command))) out.old }
 {
     match command {
         Command::Reading(reading) => draft_reading(store, header, reading, out),
@@ -38,9 +38,9 @@ fn perform(store: &mut [u64], header: Header, command: Command, out: &mut [u64])
     requires size { store_size ≤ length store.old }
     requires performable { Performable header (store_of header (parts store.old)) command }
     requires out { out_width ≤ length out.old }
-    ensures changed { result ≡ outcome_count (changes_of header.terms (store_of header (parts store.old)) (draft_of header.terms (store_of header (parts store.old)) command)) }
-    ensures parts { parts store.new ≡ parts_after header (draft_of header.terms (store_of header (parts store.old)) command) (Finish header.terms (store_of header (parts store.old)) (draft_of header.terms (store_of header (parts store.old)) command)) (parts store.old) }
-    ensures out { out.new ≡ overlay (outcome_row (changes_of header.terms (store_of header (parts store.old)) (draft_of header.terms (store_of header (parts store.old)) command))) out.old }
+    ensures changed { result ≡ outcome_count (changes_of header.clock.terms (store_of header (parts store.old)) (draft_of header.clock.terms (store_of header (parts store.old)) command)) }
+    ensures parts { parts store.new ≡ parts_after header (draft_of header.clock.terms (store_of header (parts store.old)) command) (Finish header.clock.terms (store_of header (parts store.old)) (draft_of header.clock.terms (store_of header (parts store.old)) command)) (parts store.old) }
+    ensures out { out.new ≡ overlay (outcome_row (changes_of header.clock.terms (store_of header (parts store.old)) (draft_of header.clock.terms (store_of header (parts store.old)) command))) out.old }
 {
     let drafted = draft(store, header, command, out);
     finish(store, drafted.header, out);
@@ -60,10 +60,8 @@ pub fn apply_known(
     ensures store { store.new ≡ (applied capacity store.old row.now out.old).store }
     ensures out { out.new ≡ (applied capacity store.old row.now out.old).out }
 {
-    match check(capacity, store, known, row, out.len()) {
-        Err(refusal) => Reply::Refused(refusal),
-        Ok(ready) => Reply::Done(perform(store, ready.header, ready.command, out) as u64),
-    }
+    let ready = check(capacity, store, known, row, out.len())?;
+    Ok(perform(store, ready.header, ready.command, out) as u64)
 }
 
 // The same on any row, of which nothing is known.

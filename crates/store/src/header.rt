@@ -4,19 +4,20 @@ ghost use Rattle.store.specs.Layout.{header_width};
 
 use crate::layout::{HEADER_WIDTH, LINES_ROOM, READINGS_ROOM, VISITS_ROOM};
 use rows::row::Row;
-use visit::Terms;
+use visit::{Clock, Terms};
 
 #[derive(Clone, Copy)]
 pub struct Header {
-    pub terms: Terms,
-    pub watermark: u64,
+    pub clock: Clock,
     pub visits: usize,
     pub readings: usize,
     pub lines: usize,
 }
 
 impl Row for Header {
-    ghost width = { header_width };
+    const WIDTH: usize = HEADER_WIDTH;
+
+    ghost WIDTH = { header_width };
 
     ghost made = { header_made };
 
@@ -28,18 +29,16 @@ impl Row for Header {
 
     ghost limited = { header_limited };
 
-    fn width() -> usize {
-        HEADER_WIDTH
-    }
-
     fn read(source: &[u64]) -> Header {
         Header {
-            terms: Terms {
-                gap: source[0],
-                lateness: source[1],
-                day: source[2],
+            clock: Clock {
+                terms: Terms {
+                    gap: source[0],
+                    lateness: source[1],
+                    day: source[2],
+                },
+                watermark: source[3],
             },
-            watermark: source[3],
             visits: source[4] as usize,
             readings: source[5] as usize,
             lines: source[6] as usize,
@@ -48,26 +47,26 @@ impl Row for Header {
 
     fn write(self, target: &mut [u64]) {
         target.copy_from_slice(&[
-            self.terms.gap,
-            self.terms.lateness,
-            self.terms.day,
-            self.watermark,
+            self.clock.terms.gap,
+            self.clock.terms.lateness,
+            self.clock.terms.day,
+            self.clock.watermark,
             self.visits as u64,
             self.readings as u64,
             self.lines as u64,
         ]);
     }
 
-    fn over(self) -> Option<usize> {
-        if self.visits > VISITS_ROOM {
-            return Some(4);
-        }
-        if self.readings > READINGS_ROOM {
-            return Some(5);
-        }
-        if self.lines > LINES_ROOM {
-            return Some(6);
-        }
-        None
+    // A count may be as large as its room.
+    fn limits() -> &'static [Option<u64>] {
+        &[
+            None,
+            None,
+            None,
+            None,
+            Some(VISITS_ROOM as u64 + 1),
+            Some(READINGS_ROOM as u64 + 1),
+            Some(LINES_ROOM as u64 + 1),
+        ]
     }
 }

@@ -7,18 +7,20 @@ ghost use Rattle.store.specs.Layout.{store_size};
 use crate::header::Header;
 use crate::layout::{STORE_SIZE, VISITS_AT};
 use crate::tables::put_header;
-use command::{Refusal, Reply, terms_fault};
-use visit::Terms;
+use command::{Refusal, Reply, check_terms};
+use visit::{Clock, Terms};
 
 // The terms as they are given, and 0 at every other place of the layout.
 pub fn clear(store: &mut [u64], terms: Terms)
     requires { store_size ≤ length store.old }
     ensures { store.new ≡ empty_row terms store.old }
 {
-    rows::cells::clear(store, VISITS_AT, STORE_SIZE);
+    store[VISITS_AT..STORE_SIZE].fill(0);
     let header = Header {
-        terms,
-        watermark: 0,
+        clock: Clock {
+            terms,
+            watermark: 0,
+        },
         visits: 0,
         readings: 0,
         lines: 0,
@@ -32,11 +34,9 @@ pub fn open(store: &mut [u64], terms: Terms) -> Reply
     ensures store { store.new ≡ open_row store.old (opening store.old terms) }
 {
     if store.len() < STORE_SIZE {
-        return Reply::Refused(Refusal::BadStore(store.len() as u64));
+        return Err(Refusal::BadStore(store.len() as u64));
     }
-    if let Some(fault) = terms_fault(terms) {
-        return Reply::Refused(fault);
-    }
+    check_terms(terms)?;
     clear(store, terms);
-    Reply::Done(0)
+    Ok(0)
 }

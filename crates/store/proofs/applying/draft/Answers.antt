@@ -13,10 +13,10 @@ returns-in-Reading c =
     let s = store_of h p in
     let is = sym c.in-Reading.is in
     record {
-      header = c.draft_reading.ensures.header ∙ ap (λ (k : Command). drafted_header h (draft_of h.terms s k)) is;
-      changed = c.draft_reading.ensures.changed ∙ ap (λ (k : Command). outcome_count (changes_of h.terms s (draft_of h.terms s k))) is;
-      parts = c.draft_reading.ensures.parts ∙ ap (λ (k : Command). drafted_parts h (draft_of h.terms s k) p) is;
-      out = c.draft_reading.ensures.out ∙ ap (λ (k : Command). overlay (outcome_row (changes_of h.terms s (draft_of h.terms s k))) c.args.out.now) is;
+      header = c.draft_reading.ensures.header ∙ ap (λ (k : Command). drafted_header h (draft_of h.clock.terms s k)) is;
+      changed = c.draft_reading.ensures.changed ∙ ap (λ (k : Command). outcome_count (changes_of h.clock.terms s (draft_of h.clock.terms s k))) is;
+      parts = c.draft_reading.ensures.parts ∙ ap (λ (k : Command). drafted_parts h (draft_of h.clock.terms s k) p) is;
+      out = c.draft_reading.ensures.out ∙ ap (λ (k : Command). overlay (outcome_row (changes_of h.clock.terms s (draft_of h.clock.terms s k))) c.args.out.now) is;
     }
 
 pub returns-in-Watermark : goal.returns-in-Watermark
@@ -26,8 +26,8 @@ returns-in-Watermark c =
     let s = store_of h p in
     let is = sym c.in-Watermark.is in
     record {
-      header = c.draft_watermark.ensures.header ∙ ap (λ (k : Command). drafted_header h (draft_of h.terms s k)) is;
-      changed = c.draft_watermark.ensures.changed ∙ ap (λ (k : Command). outcome_count (changes_of h.terms s (draft_of h.terms s k))) is;
-      parts = c.draft_watermark.ensures.parts ∙ ap (λ (k : Command). drafted_parts h (draft_of h.terms s k) p) is;
-      out = c.draft_watermark.ensures.out ∙ ap (λ (k : Command). overlay (outcome_row (changes_of h.terms s (draft_of h.terms s k))) c.args.out.now) is;
+      header = c.draft_watermark.ensures.header ∙ ap (λ (k : Command). drafted_header h (draft_of h.clock.terms s k)) is;
+      changed = c.draft_watermark.ensures.changed ∙ ap (λ (k : Command). outcome_count (changes_of h.clock.terms s (draft_of h.clock.terms s k))) is;
+      parts = c.draft_watermark.ensures.parts ∙ ap (λ (k : Command). drafted_parts h (draft_of h.clock.terms s k) p) is;
+      out = c.draft_watermark.ensures.out ∙ ap (λ (k : Command). overlay (outcome_row (changes_of h.clock.terms s (draft_of h.clock.terms s k))) c.args.out.now) is;
     }

@@ -10,7 +10,7 @@ pub finish-requires : goal.finish-requires
 finish-requires c =
     let h = c.args.header in
     let p = parts c.args.store.now in
-    let d = draft_of h.terms (store_of h p) c.args.command in
+    let d = draft_of h.clock.terms (store_of h p) c.args.command in
     let k = c.draft-drafted.result.header in
     let q = parts c.draft-drafted.new.store in
     let head = c.draft-drafted.ensures.header in
@@ -29,7 +29,7 @@ pub returns : goal.returns
 returns c =
     let h = c.args.header in
     let p = parts c.args.store.now in
-    let d = draft_of h.terms (store_of h p) c.args.command in
+    let d = draft_of h.clock.terms (store_of h p) c.args.command in
     record {
       changed = c.draft-drafted.ensures.changed;
       parts = ended h d p (parts c.draft-drafted.new.store) c.draft-drafted.result.header c.args.out.now c.draft-drafted.new.out

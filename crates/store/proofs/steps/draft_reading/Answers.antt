@@ -1,24 +1,20 @@
 use Rattle.std.proofs.Common.{max, length, refl, ap, ◌∙◌, arith}
-use Rattle.std.proofs.lemmas.List.Edits.{length-between}
 use Rattle.visit.specs.declared.Visit.{Visit}
 use Rattle.model.specs.Store.{merge_in}
-use Rattle.live.specs.Tables.{visits_held, visits_in}
-use Rattle.changes.specs.Changed.{merging}
+use Rattle.rows.specs.Visits.{visits_held, visits_in}
+use Rattle.changes.specs.Changed.{compared, merging}
 use Rattle.changes.specs.Out.{outcome_count, outcome_row, overlay}
-use Rattle.store.specs.Layout.{readings_at, visits_at}
 use Rattle.store.specs.Parts.{parts, with_visits}
 use Rattle.store.proofs.Drafting.{changes_found, drafted_counts, drafted_reading, merged_count, merged_parts, others_few, place_fits}
+use Rattle.store.proofs.Views.{seen_at}
 use Rattle.store.proofs.steps.draft_reading.Goals as goal
 
 pub by_reading-changed-requires : goal.by_reading-changed-requires
 by_reading-changed-requires c =
     let p = parts c.args.store.now in
     let s = c.set_aside-placed.new.store in
-    record {
-      place = others_few c.args.header c.single.result p (parts s) c.set_aside-placed.result (visits_in c.args.header.visits p.visits) refl c.set_aside-placed.ensures.placed c.set_aside-placed.ensures.parts;
-      within = omega (arith, length-between s visits_at readings_at (omega arith));
-      room = omega arith;
-    }
+    let others = others_few c.args.header c.single.result p (parts s) c.set_aside-placed.result (visits_in c.args.header.visits p.visits) refl c.set_aside-placed.ensures.placed c.set_aside-placed.ensures.parts in
+    record { place = omega (arith, others, c.new-visits.ensures.len); room = omega (arith, c.new-visits.ensures.len) }
 
 pub place-count-requires : goal.place-count-requires
 place-count-requires c =
@@ -38,7 +34,7 @@ overflow_add-result c = omega arith
 pub returns : goal.returns
 returns c =
     let h = c.args.header in
-    let t = h.terms in
+    let t = h.clock.terms in
     let e = c.args.reading in
     let v = c.single.result in
     let p = parts c.args.store.now in
@@ -46,8 +42,9 @@ returns c =
     let r = parts c.place-count.new.store in
     let placed = c.set_aside-placed.result in
     let vs = visits_in h.visits p.visits in
-    let found = changes_found h v p q placed vs refl c.set_aside-placed.ensures.placed c.set_aside-placed.ensures.parts
-    ∙ ap (λ (u : Visit). merging t h.watermark u vs) c.single.ensures in
+    let seen = seen_at c.new-visits.result h.visits q.visits c.new-visits.ensures.cells c.new-visits.ensures.len in
+    let found = ap (compared t h.clock.watermark placed) seen ∙ changes_found h v p q placed vs refl c.set_aside-placed.ensures.placed c.set_aside-placed.ensures.parts
+    ∙ ap (λ (u : Visit). merging t h.clock.watermark u vs) c.single.ensures in
     let many = c.place-count.ensures.many ∙ merged_count h v p q placed vs refl c.set_aside-placed.ensures.placed c.set_aside-placed.ensures.parts
     ∙ ap (λ (u : Visit). length (merge_in t u vs)) c.single.ensures in
     let merged = merged_parts h v p q placed vs refl c.set_aside-placed.ensures.placed c.set_aside-placed.ensures.parts r c.place-count.ensures.parts

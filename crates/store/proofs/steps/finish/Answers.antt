@@ -1,4 +1,4 @@
-use Rattle.ledger.specs.Out.{gone_in, new_in}
+use Rattle.rows.specs.Out.{gone_in, new_in}
 use Rattle.store.specs.Parts.{parts}
 use Rattle.store.proofs.Finishing.{finished}
 use Rattle.store.proofs.steps.finish.Goals as goal

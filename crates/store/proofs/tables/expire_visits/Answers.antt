@@ -8,8 +8,8 @@ use Rattle.store.proofs.tables.expire_visits.Goals as goal
 pub returns : goal.returns
 returns c =
     let xs = c.args.store.now in
-    let long : length c.expire.new.table ≡ readings_at - visits_at = omega (arith, length-between xs visits_at readings_at (omega arith)) in
+    let long : length c.expire_visits.new.cells ≡ readings_at - visits_at = omega (arith, length-between xs visits_at readings_at (omega arith)) in
     record {
-      many = c.expire.ensures.many;
-      parts = parts_visits xs c.expire.new.table c.requires.size long ∙ ap (λ l. with_visits l (parts xs)) c.expire.ensures.table;
+      many = c.expire_visits.ensures.many;
+      parts = parts_visits xs c.expire_visits.new.cells c.requires.size long ∙ ap (λ l. with_visits l (parts xs)) c.expire_visits.ensures.table;
     }

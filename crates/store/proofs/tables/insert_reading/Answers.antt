@@ -8,5 +8,5 @@ use Rattle.store.proofs.tables.insert_reading.Goals as goal
 pub returns : goal.returns
 returns c =
     let xs = c.args.store.now in
-    let long : length c.insert.new.table ≡ lines_at - readings_at = omega (arith, length-between xs readings_at lines_at (omega arith)) in
-    parts_readings xs c.insert.new.table c.requires.size long ∙ ap (λ l. with_readings l (parts xs)) c.insert.ensures.held
+    let long : length c.insert_reading.new.cells ≡ lines_at - readings_at = omega (arith, length-between xs readings_at lines_at (omega arith)) in
+    parts_readings xs c.insert_reading.new.cells c.requires.size long ∙ ap (λ l. with_readings l (parts xs)) c.insert_reading.ensures

@@ -8,8 +8,8 @@ use Rattle.store.proofs.tables.place.Goals as goal
 pub returns : goal.returns
 returns c =
     let xs = c.args.store.now in
-    let long : length c.place.new.table ≡ readings_at - visits_at = omega (arith, length-between xs visits_at readings_at (omega arith)) in
+    let long : length c.place.new.cells ≡ readings_at - visits_at = omega (arith, length-between xs visits_at readings_at (omega arith)) in
     record {
       many = c.place.ensures.many;
-      parts = parts_visits xs c.place.new.table c.requires.size long ∙ ap (λ l. with_visits l (parts xs)) c.place.ensures.table;
+      parts = parts_visits xs c.place.new.cells c.requires.size long ∙ ap (λ l. with_visits l (parts xs)) c.place.ensures.table;
     }

@@ -8,8 +8,8 @@ use Rattle.store.proofs.tables.post.Goals as goal
 pub returns : goal.returns
 returns c =
     let xs = c.args.store.now in
-    let long : length c.post.new.table ≡ store_size - lines_at = omega (arith, length-between xs lines_at store_size (omega arith)) in
+    let long : length c.post.new.cells ≡ store_size - lines_at = omega (arith, length-between xs lines_at store_size (omega arith)) in
     record {
       many = c.post.ensures.many;
-      parts = parts_lines xs c.post.new.table c.requires.size long ∙ ap (λ l. with_lines l (parts xs)) c.post.ensures.table;
+      parts = parts_lines xs c.post.new.cells c.requires.size long ∙ ap (λ l. with_lines l (parts xs)) c.post.ensures.table;
     }
