@@ -6,7 +6,7 @@ use Rattle.visit.specs.Readings.{too_late}
 use Rattle.command.specs.declared.Command.{Command}
 use Rattle.command.specs.declared.Command.TheVariants.{Reading as AReading, Watermark}
 use Rattle.command.specs.declared.Refusal.{Refusal}
-use Rattle.command.specs.declared.Reply.{Reply}
+use Rattle.command.specs.Numbers.{Reply}
 use Rattle.model.specs.Reference.{Reference, empty, plan, state_by}
 use Rattle.model.specs.Sessions.{contains}
 use Rattle.model.proofs.Common.{split}
@@ -14,7 +14,8 @@ use Rattle.model.proofs.Mirror.{image}
 use Rattle.rows.specs.Limits.{count_limit, sum_limit}
 use Rattle.store.specs.Checks.{sound_row}
 use Rattle.store.specs.Contents.{empty_row}
-use Rattle.store.specs.Faults.{command_in, first_fault}
+use Rattle.command.specs.Cells.{command_in, command_cells}
+use Rattle.store.specs.Faults.{first_fault}
 use Rattle.store.specs.Layout.{store_size}
 use Rattle.store.proofs.Knowing.{sound_by}
 use Rattle.guarantees.specs.AnyTime.{reference_now}
@@ -25,7 +26,6 @@ use Rattle.guarantees.proofs.Along.{left_now}
 use Rattle.guarantees.proofs.Growing.{amounts, amounts_insert}
 use Rattle.guarantees.proofs.Lengths.{length-insert}
 use Rattle.guarantees.proofs.Sound.{sound_now}
-use Rattle.owned.specs.Rows.{command_cells}
 use Rattle.owned.specs.Written.{Written, amount_in, below_limits}
 
 -- A command takes in one reading at most, and no more than its amount.

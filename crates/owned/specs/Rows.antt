@@ -1,20 +1,16 @@
--- A command as the row of numbers that the store takes.
-use Rattle.std.specs.Prelude.{ℕ, min, cond, List, [], ◌∷◌, length, nat_lt}
+-- What a store in a row of numbers makes of commands.
+use Rattle.std.specs.Prelude.{ℕ, min, cond, List, [], length, nat_lt}
 use Rattle.visit.specs.declared.Line.{Line}
 use Rattle.command.specs.declared.Command.{Command}
+use Rattle.command.specs.Cells.{command_cells}
 use Rattle.command.specs.Outcomes.{Outcome}
-use Rattle.ledger.specs.Table.{lines_in}
+use Rattle.rows.specs.Lines.{lines_in}
 use Rattle.store.specs.declared.capacity.Capacity.{Capacity}
 use Rattle.store.specs.Applied.{outcome_in, row_by}
 use Rattle.store.specs.Contents.{header_in}
 use Rattle.store.specs.Faults.{verdict}
 use Rattle.store.specs.Layout.{lines_room, store_size}
 use Rattle.store.specs.Parts.{parts}
-use Rattle.command.specs.declared.Command.TheVariants.{Reading as AReading, Watermark}
-
-abbrev pub command_cells : Command → List ℕ
-command_cells (AReading e) = 0 ∷ e.card ∷ e.time ∷ e.serial ∷ e.amount ∷ []
-command_cells (Watermark m) = 1 ∷ m ∷ 0 ∷ 0 ∷ 0 ∷ []
 
 -- What a store in the row xs makes of a command, where `out` has n numbers: the outcome, and the row after it.
 abbrev pub outcome_to : Capacity → List ℕ → ℕ → Command → Outcome

@@ -4,37 +4,27 @@
 mod answers;
 mod state;
 
-ghost use Rattle.changes.specs.Room.{out_width};
 ghost use Rattle.command.specs.Outcomes.{outcome_of};
-ghost use Rattle.owned.specs.Rows.{command_cells, lines_shown, outcome_to, row_then};
-ghost use Rattle.owned.specs.State.{capacity_of, out_long, row_of};
+ghost use Rattle.owned.specs.Rows.{lines_shown, outcome_to, row_then};
+ghost use Rattle.owned.specs.State.{IsNew, capacity_of, out_long, row_of};
 ghost use Rattle.owned.specs.Written.{amount_in, below_limits};
-ghost use Rattle.std.specs.Prelude.{◌≡◌, true, length, replicate, IfOk};
+ghost use Rattle.std.specs.Prelude.{◌≡◌, true, length, IfOk};
 ghost use Rattle.store.specs.Checks.{sound_row};
-ghost use Rattle.store.specs.Contents.{empty_row};
-ghost use Rattle.store.specs.Layout.{store_size};
 
-use answers::{changes_of, rows_of};
-use command::{Answer, Command, Reply};
+use answers::changes_of;
+use command::cells::COMMAND_WIDTH;
+use command::{Answer, Command};
 use rows::limits::{COUNT_LIMIT, SUM_LIMIT};
 use rows::row::Row;
+use rows::table::Rows;
 pub use state::OwnedStore;
 use std::alloc::{AllocError, Global};
 use store::applying::apply_known;
 use store::capacity::Capacity;
+use store::header::Header;
 use store::layout::{LINES_AT, LINES_ROOM, OUT_SIZE, STORE_SIZE};
 use store::opening::clear;
 use visit::{Line, Terms};
-
-// The command as the store takes it. Of a watermark's row only the first two numbers are looked at.
-pub fn command_cells(command: Command) -> [u64; 5]
-    ensures { result ≡ command_cells command }
-{
-    match command {
-        Command::Reading(e) => [0, e.card, e.time, e.serial, e.amount],
-        Command::Watermark(watermark) => [1, watermark, 0, 0, 0],
-    }
-}
 
 // The most that a command adds to the sum of all amounts.
 fn amount_in(command: Command) -> u64
@@ -66,10 +56,10 @@ pub fn answer(
     ensures answer { IfOk result (λ a. outcome_of a ≡ outcome_to capacity row.old (length out.old) command) }
     ensures row { row.new ≡ row_then capacity row.old (length out.old) command }
 {
-    let cells = command_cells(command);
+    let cells: [u64; COMMAND_WIDTH] = command.into();
     match apply_known(capacity, row, known, &cells, out) {
-        Reply::Refused(refusal) => Ok(Answer::Refused(refusal)),
-        Reply::Done(_) => Ok(Answer::Changed(changes_of(heap, out)?)),
+        Ok(_) => Ok(Ok(changes_of(heap, out)?)),
+        Err(refusal) => Ok(Err(refusal)),
     }
 }
 
@@ -80,20 +70,15 @@ pub fn lines_of(heap: Global, row: &[u64]) -> Result<Vec<Line>, AllocError>
     if row.len() < STORE_SIZE {
         return Ok(Vec::new(heap));
     }
-    let header = <store::header::Header as Row>::read(row);
-    rows_of::<Line>(
-        heap,
-        &row[LINES_AT..STORE_SIZE],
-        header.lines.min(LINES_ROOM),
-    )
+    let header = Header::read(row);
+    let lines = Rows::<Line>::new(&row[LINES_AT..STORE_SIZE], header.lines.min(LINES_ROOM));
+    lines.iter().collect(heap)
 }
 
 impl OwnedStore {
     // An empty store under these terms, whatever they are: out of bounds, every command is refused for them.
     pub fn new(heap: Global, terms: Terms, capacity: Capacity) -> Result<OwnedStore, AllocError>
-        ensures row { IfOk result (λ s. row_of s ≡ empty_row terms (replicate store_size 0)) }
-        ensures out { IfOk result (λ s. out_long s ≡ out_width) }
-        ensures capacity { IfOk result (λ s. capacity_of s ≡ capacity) }
+        ensures { IfOk result (IsNew terms capacity) }
     {
         let mut row = vec![in heap; 0; STORE_SIZE]?;
         let out = vec![in heap; 0; OUT_SIZE]?;

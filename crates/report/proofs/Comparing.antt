@@ -13,10 +13,10 @@ use Rattle.model.proofs.Common.{split}
 use Rattle.model.proofs.Mirror.{image}
 use Rattle.changes.specs.Out.{change_row, outcome_row, overlay}
 use Rattle.changes.specs.Room.{out_width}
-use Rattle.ledger.specs.Table.{lines_in}
+use Rattle.rows.specs.Lines.{lines_in}
 use Rattle.store.specs.declared.capacity.Capacity.{Capacity}
 use Rattle.store.specs.Contents.{empty_row, header_in}
-use Rattle.store.specs.Faults.{command_in}
+use Rattle.command.specs.Cells.{command_in, command_cells}
 use Rattle.store.specs.Layout.{lines_room, store_size}
 use Rattle.store.specs.Parts.{parts}
 use Rattle.guarantees.specs.Calls.{Call}
@@ -27,7 +27,7 @@ use Rattle.guarantees.proofs.Along.{Moved, moved}
 use Rattle.guarantees.proofs.Clean.{clean_length, clean_store, empty_clean}
 use Rattle.guarantees.proofs.Runs.{planned_bounded}
 use Rattle.guarantees.proofs.Standing.{Standing, empty_standing}
-use Rattle.owned.specs.Rows.{command_cells, lines_shown, outcome_to, row_then}
+use Rattle.owned.specs.Rows.{lines_shown, outcome_to, row_then}
 use Rattle.owned.proofs.Told.{done_outcome, refused_outcome}
 use Rattle.feed.specs.Files.{body, commands}
 use Rattle.feed.specs.Text.{ledger_text, outcome_text}

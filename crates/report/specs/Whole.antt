@@ -15,6 +15,12 @@ Reported text file None = terms_in file ≡ None
 Reported text file (Some r) =
     (t : Terms) × (terms_in file ≡ Some t) × (string_bytes r.text ≡ text t (commands (body file))) × (r.unread ≡ unread (body file))
 
+-- The same of a report by something that was made of the terms: the text is what that prints of the commands.
+abbrev pub ReportedBy : {S : Type 0} → (Terms → S → Type 0) → (S → List Command → List ℕ) → List ℕ → Option Report → Type 0
+ReportedBy made prints file None = terms_in file ≡ None
+ReportedBy {S = S} made prints file (Some r) =
+    (t : Terms) × (terms_in file ≡ Some t) × ((s : S) × made t s × (string_bytes r.text ≡ prints s (commands (body file)))) × (r.unread ≡ unread (body file))
+
 -- Of a report by a store: it has the text that recomputing prints, if no command of the file is refused with 1 or 7.
 abbrev pub AsRecomputed : Capacity → List ℕ → Option Report → Type 0
 AsRecomputed cap file None = Unit {0}

@@ -8,16 +8,17 @@ pub mod whole;
 
 ghost use Rattle.feed.specs.Files.{commands, unread as Unread};
 ghost use Rattle.report.specs.Texts.{recompute_text};
-ghost use Rattle.report.specs.Whole.{Reported};
-ghost use Rattle.std.specs.Prelude.{◌≡◌, List, ◌∷◌, ◌++◌, IfOk, string_bytes, OnOk};
+ghost use Rattle.report.specs.Whole.{Reported, ReportedBy};
+ghost use Rattle.std.specs.Prelude.{◌≡◌, List, ◌∷◌, ◌++◌, IfOk, Ok, string_bytes, OnOk};
 ghost use Rattle.command.specs.declared.Command.{Command};
 
 use command::Command;
-use feed::files::{TERMS_SIZE, command_at, read_terms};
+use feed::files::{Commands, TERMS_SIZE, read_terms};
 use feed::text::{put_answer, put_ledger};
 use reference::Reference;
 use sessions::Sessions;
 use std::alloc::{AllocError, Global};
+use visit::Terms;
 pub use whole::Report;
 
 // Does one command, and puts the text of its answer behind the text.
@@ -30,8 +31,7 @@ fn apply_one<S: Sessions>(
     ensures { OnOk result ((cs : List Command) → string_bytes text.new ++ S.prints sessions.new cs ≡ string_bytes text.old ++ S.prints sessions.old (command ∷ cs)) }
 {
     let answer = sessions.apply(heap, command)?;
-    put_answer(text, &answer)?;
-    Ok(())
+    put_answer(text, &answer)
 }
 
 // Does the commands behind a file's terms, one after the other.
@@ -44,26 +44,38 @@ pub fn run<S: Sessions + Drop>(
     ensures rest { IfOk result (λ p. p.unread ≡ Unread bytes.now) }
 {
     let mut text = String::new(heap);
-    let mut at = 0;
-    while let Some((command, next)) = command_at(bytes, at) {
+    let mut commands = Commands::new(bytes);
+    // Nothing is known of an iterator that a `for` has borrowed, and what is left is asked for.
+    while let Some(command) = commands.next() {
         apply_one(heap, &mut sessions, &mut text, command)?;
-        at = next;
     }
     let lines = sessions.ledger(heap)?;
-    put_ledger(&mut text, lines.as_slice())?;
+    put_ledger(&mut text, &lines)?;
     Ok(Report {
         text,
-        unread: bytes.len() - at,
+        unread: commands.unread(),
     })
 }
 
-// The report of a whole file by the reference; None if the file is shorter than its terms.
-pub fn recompute(heap: Global, file: &[u8]) -> Result<Option<Report>, AllocError>
-    ensures { IfOk result (λ o. Reported recompute_text file.now o) }
+// The report of a whole file by what is made of its terms; None if the file is shorter than them.
+fn report<S: Sessions + Drop, F: FnOnce(Terms) -> Result<S, AllocError>>(
+    heap: Global,
+    file: &[u8],
+    start: F,
+) -> Result<Option<Report>, AllocError>
+    requires { F.IsAlwaysCallable start }
+    ensures { IfOk result (λ o. ReportedBy (λ t s. F.post start t (Ok s)) S.prints file.now o) }
 {
     let Some(terms) = read_terms(file) else {
         return Ok(None);
     };
-    let report = run(heap, Reference::new(heap, terms), &file[TERMS_SIZE..])?;
+    let report = run(heap, start(terms)?, &file[TERMS_SIZE..])?;
     Ok(Some(report))
+}
+
+// The report of a whole file by the reference.
+pub fn recompute(heap: Global, file: &[u8]) -> Result<Option<Report>, AllocError>
+    ensures { IfOk result (λ o. Reported recompute_text file.now o) }
+{
+    report(heap, file, |terms| Ok(Reference::new(heap, terms)))
 }

@@ -7,7 +7,8 @@ use Rattle.command.specs.Outcomes.{outcome_of}
 use Rattle.rows.specs.Limits.{count_limit, sum_limit}
 use Rattle.store.specs.Checks.{sound_row}
 use Rattle.guarantees.specs.Calls.{Call}
-use Rattle.owned.specs.Rows.{command_cells, outcome_to, row_then}
+use Rattle.command.specs.Cells.{command_cells}
+use Rattle.owned.specs.Rows.{outcome_to, row_then}
 use Rattle.owned.specs.Written.{Written, amount_in}
 use Rattle.owned.proofs.Writing.{same_command, written_more, written_sound}
 use Rattle.owned.proofs.state.OwnedStore.apply.Goals as goal

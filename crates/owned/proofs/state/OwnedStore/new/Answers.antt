@@ -1,19 +1,9 @@
 use Rattle.std.proofs.Common.{◌≡◌, ℕ, List, length, sym, refl, ap, ◌∙◌, subst, arith}
 use Rattle.std.proofs.lemmas.List.{with_items_is}
-use Rattle.std.proofs.lemmas.Result.{IfOk-from_err}
 use Rattle.store.specs.Contents.{empty_row}
 use Rattle.owned.specs.Written.{Written}
 use Rattle.owned.proofs.Writing.{first_written}
 use Rattle.owned.proofs.state.OwnedStore.new.Goals as goal
-
-pub returns-in_err-out : goal.returns-in_err-out
-returns-in_err-out c =
-    let e = c.from_residual-in_err-out.ensures.0 in
-    record {
-      row = IfOk-from_err c.from_residual-in_err-out.result _ e;
-      out = IfOk-from_err c.from_residual-in_err-out.result _ e;
-      capacity = IfOk-from_err c.from_residual-in_err-out.result _ e;
-    }
 
 pub invariant_of-result : goal.invariant_of-result
 invariant_of-result c =
