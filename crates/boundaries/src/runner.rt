@@ -3,7 +3,7 @@ use crate::numbers::numbers;
 use crate::setup::{LINES, READINGS, Setup, Table, VISITS, cell, resize};
 use crate::show::{kept_word, show_out, show_store};
 use anyhow::anyhow;
-use command::Reply;
+use command::{Reply, reply_number, reply_value};
 use std::alloc::Global;
 use std::fmt::Write;
 use store::applying::{apply, apply_within};
@@ -133,18 +133,9 @@ impl Runner {
         };
         let out_kept = out.as_slice() == out_before.as_slice();
         self.answer(reply, before.as_slice(), out_kept)?;
-        if reply.number() == 0 {
-            show_out(
-                &mut self.text,
-                out.as_slice(),
-                out_before.as_slice(),
-                reply.value(),
-            )?;
-            show_store(
-                &mut self.text,
-                self.setup.store.as_slice(),
-                before.as_slice(),
-            )?;
+        if let Ok(changed) = reply {
+            show_out(&mut self.text, &out, &out_before, changed)?;
+            show_store(&mut self.text, &self.setup.store, &before)?;
         }
         Ok(())
     }
@@ -153,12 +144,8 @@ impl Runner {
         let before = self.setup.store.clone()?;
         let reply = open(self.setup.store.as_mut_slice(), terms);
         self.answer(reply, before.as_slice(), true)?;
-        if reply.number() == 0 {
-            show_store(
-                &mut self.text,
-                self.setup.store.as_slice(),
-                before.as_slice(),
-            )?;
+        if reply.is_ok() {
+            show_store(&mut self.text, &self.setup.store, &before)?;
         }
         Ok(())
     }
@@ -174,10 +161,10 @@ impl Runner {
     // The reply; of a refusal also whether both rows stayed as they were.
     fn answer(&mut self, reply: Reply, before: &[u64], out_kept: bool) -> anyhow::Result<()> {
         let name = self.name.as_str();
-        let number = reply.number();
-        let value = reply.value();
+        let number = reply_number(reply);
+        let value = reply_value(reply);
         write!(self.text, "{name}: {number} {value}")?;
-        if number != 0 {
+        if reply.is_err() {
             let kept = kept_word(out_kept && self.setup.store.as_slice() == before);
             write!(self.text, " {kept}")?;
         }

@@ -43,6 +43,7 @@ pub struct Setup {
 // Cuts a row, or lengthens it. New cells hold a number that tells their place, so that nothing moves unnoticed.
 pub fn resize(row: &mut Vec<u64>, size: usize) -> anyhow::Result<()> {
     row.truncate(size);
+    // The place itself goes into the cell.
     for i in row.len()..size {
         row.push((i as u64).saturating_add(7_000_000))?;
     }
@@ -102,6 +103,7 @@ impl Setup {
         count: u64,
         numbers: &[u64],
     ) -> anyhow::Result<()> {
+        // The row's number goes into its cells.
         for i in 0..count {
             let mut row = Vec::new(heap);
             for k in 0..table.width {

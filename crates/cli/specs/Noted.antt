@@ -1,5 +1,5 @@
 -- The options after one word more.
-use Rattle.std.specs.Prelude.{true, false, Some, None, Ok, Err, Option, Result, String}
+use Rattle.std.specs.Prelude.{ℕ, true, false, List, Some, None, Ok, Err, codes, Option, Result, String}
 use Rattle.std.specs.declared.alloc.Global.{Global}
 use Rattle.cli.specs.declared.flags.Flag.{Flag}
 use Rattle.cli.specs.declared.flags.Flag.TheVariants.{Help, Version, Strict, Unpack, Unknown, Name}
@@ -22,3 +22,8 @@ noted o word Name = with_file o o.file word
 
 abbrev pub no_options : Options
 no_options = record { help = false; version = false; strict = false; unpack = false; file = None }
+
+-- What is said of a command line that is refused.
+abbrev pub usage_text : Usage → List ℕ
+usage_text UnknownOption = codes "unknown option; --help says which there are"
+usage_text TwoFiles = codes "more than one file"

@@ -4,14 +4,8 @@
 pub mod flags;
 pub mod options;
 
-ghost use Rattle.cli.specs.Flags.{Means};
-ghost use Rattle.cli.specs.Noted.{no_options, noted as Noted};
-ghost use Rattle.cli.specs.declared.flags.Flag.{Flag as AFlag};
-ghost use Rattle.std.specs.Prelude.{◌≡◌, string_bytes, ◌==◌, slice_index};
-
 use anyhow::anyhow;
-use flags::Flag;
-use options::{Options, Usage};
+use options::Options;
 use std::io::{Read, Write};
 use std::process::ExitCode;
 use std::{env, fmt, fs};
@@ -20,77 +14,14 @@ const VERSION: &str = "0.1.0";
 
 const STOPPED: &str = "the command ends early or is of unknown kind";
 
-pub fn flag(word: &str) -> Flag
-    ensures { Means word.now result }
-{
-    match word {
-        "--help" => Flag::Help,
-        "--version" => Flag::Version,
-        "--strict" => Flag::Strict,
-        "--unpack" => Flag::Unpack,
-        _ => if is_option(word.as_bytes()) {
-            Flag::Unknown
-        } else {
-            Flag::Name
-        },
-    }
-}
-
-fn is_option(word: &[u8]) -> bool
-    ensures { result ≡ (slice_index word.now 0 == 45) }
-{
-    !word.is_empty() && word[0] == b'-'
-}
-
-impl Options {
-    pub fn none() -> Options
-        ensures { result ≡ no_options }
-    {
-        Options {
-            help: false,
-            version: false,
-            strict: false,
-            unpack: false,
-            file: None,
-        }
-    }
-
-    // The options with one word more.
-    pub fn noted(self, word: String) -> Result<Options, Usage>
-        ensures { (f : AFlag) × Means (string_bytes word) f × (result ≡ Noted self word f) }
-    {
-        match flag(word.as_str()) {
-            Flag::Help => Ok(Options { help: true, ..self }),
-            Flag::Version => Ok(Options {
-                version: true,
-                ..self
-            }),
-            Flag::Strict => Ok(Options {
-                strict: true,
-                ..self
-            }),
-            Flag::Unpack => Ok(Options {
-                unpack: true,
-                ..self
-            }),
-            Flag::Unknown => Err(Usage::UnknownOption),
-            Flag::Name if self.file.is_some() => Err(Usage::TwoFiles),
-            Flag::Name => Ok(Options {
-                file: Some(word),
-                ..self
-            }),
-        }
-    }
-}
-
 // A program: its name, what --help prints, and what it does with a file, once its options are known.
 pub trait Tool {
-    fn name(&self) -> &'static str;
+    const NAME: &'static str;
 
-    fn help(&self) -> &'static str;
+    const HELP: &'static str;
 
     // Writes to standard output, and says how many bytes at the end of the file could not be read.
-    fn process(&self, rt: &HostRuntime, options: &Options, file: &[u8]) -> anyhow::Result<usize>;
+    fn process(rt: &HostRuntime, options: &Options, file: &[u8]) -> anyhow::Result<usize>;
 }
 
 // Why a run fails. The path of a file that cannot be read stands beside the error, which keeps 120 bytes of text at most.
@@ -119,20 +50,20 @@ impl<E: Into<anyhow::Error>> From<E> for Failure {
 }
 
 // Runs a program, and says in one line on standard error what went wrong.
-pub fn run<T: Tool>(rt: &HostRuntime, tool: &T) -> ExitCode {
-    let Err(e) = attempt(rt, tool) else {
+pub fn run<T: Tool>(rt: &HostRuntime) -> ExitCode {
+    let Err(e) = attempt::<T>(rt) else {
         return ExitCode::SUCCESS;
     };
-    let name = tool.name();
+    let name = T::NAME;
     let _ = eprintln!(rt; "{name}: {e}");
     ExitCode::FAILURE
 }
 
-fn attempt<T: Tool>(rt: &HostRuntime, tool: &T) -> Result<(), Failure> {
+fn attempt<T: Tool>(rt: &HostRuntime) -> Result<(), Failure> {
     let options = gather(rt)?;
-    let name = tool.name();
+    let name = T::NAME;
     if options.help {
-        output(rt, tool.help().as_bytes())?;
+        output(rt, T::HELP.as_bytes())?;
         return Ok(());
     }
     if options.version {
@@ -146,7 +77,7 @@ fn attempt<T: Tool>(rt: &HostRuntime, tool: &T) -> Result<(), Failure> {
             error,
         }),
     };
-    let unread = tool.process(rt, &options, file.as_slice())?;
+    let unread = T::process(rt, &options, &file)?;
     if unread > 0 {
         let at = file.len().saturating_sub(unread);
         if options.strict {
@@ -161,13 +92,7 @@ fn attempt<T: Tool>(rt: &HostRuntime, tool: &T) -> Result<(), Failure> {
 fn gather(rt: &HostRuntime) -> anyhow::Result<Options> {
     let mut options = Options::none();
     for word in env::args(rt)?.skip(1) {
-        options = match options.noted(word) {
-            Ok(more) => more,
-            Err(Usage::UnknownOption) => return Err(anyhow!(
-                "unknown option; --help says which there are"
-            )),
-            Err(Usage::TwoFiles) => return Err(anyhow!("more than one file")),
-        };
+        options = options.noted(word)?;
     }
     Ok(options)
 }

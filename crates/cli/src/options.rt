@@ -1,5 +1,14 @@
 // The options of a run.
-#[derive(Drop)]
+ghost use Rattle.cli.specs.Flags.{Means};
+ghost use Rattle.cli.specs.Noted.{no_options, noted as Noted, usage_text};
+ghost use Rattle.cli.specs.declared.flags.Flag.{Flag as AFlag};
+ghost use Rattle.std.specs.Prelude.{◌≡◌, Some, string_bytes};
+
+use crate::flags::Flag;
+use std::error::Error;
+use std::fmt;
+
+#[derive(Debug, Drop)]
 pub struct Options {
     pub help: bool,
     pub version: bool,
@@ -13,4 +22,58 @@ pub struct Options {
 pub enum Usage {
     UnknownOption,
     TwoFiles,
+}
+
+impl fmt::Display for Usage {
+    ghost output = { λ u. Some (usage_text u) };
+
+    fn fmt<W: fmt::Write>(&self, f: &mut fmt::Formatter<W>) -> fmt::Result {
+        f.write_str(match self {
+            Usage::UnknownOption => "unknown option; --help says which there are",
+            Usage::TwoFiles => "more than one file",
+        })
+    }
+}
+
+impl Error for Usage {}
+
+impl Options {
+    pub fn none() -> Options
+        ensures { result ≡ no_options }
+    {
+        Options {
+            help: false,
+            version: false,
+            strict: false,
+            unpack: false,
+            file: None,
+        }
+    }
+
+    // The options with one word more.
+    pub fn noted(self, word: String) -> Result<Options, Usage>
+        ensures { (f : AFlag) × Means (string_bytes word) f × (result ≡ Noted self word f) }
+    {
+        match Flag::from(word.as_str()) {
+            Flag::Help => Ok(Options { help: true, ..self }),
+            Flag::Version => Ok(Options {
+                version: true,
+                ..self
+            }),
+            Flag::Strict => Ok(Options {
+                strict: true,
+                ..self
+            }),
+            Flag::Unpack => Ok(Options {
+                unpack: true,
+                ..self
+            }),
+            Flag::Unknown => Err(Usage::UnknownOption),
+            Flag::Name if self.file.is_some() => Err(Usage::TwoFiles),
+            Flag::Name => Ok(Options {
+                file: Some(word),
+                ..self
+            }),
+        }
+    }
 }

@@ -1,34 +1,28 @@
 // Does the commands of a file by the reference, which keeps every reading and works everything out anew.
 #![tactic(auto)]
 
-use anyhow::anyhow;
+use anyhow::Context;
 use cli::Tool;
 use cli::options::Options;
 use std::process::ExitCode;
 
-const HELP: &str =
-    "recompute [--strict] [FILE]\n\nReads a command file, FILE or standard input, keeps every reading and works everything out anew at each\ncommand. Prints the visits retracted and added, the refusals, and at the end the ledger.\n\n  --strict   end with status 1 if the file ends within a command or has one of unknown kind\n  --help     print this and end\n  --version  print the version and end\n";
-
 struct Recompute;
 
 impl Tool for Recompute {
-    fn name(&self) -> &'static str {
-        "recompute"
-    }
+    const NAME: &'static str = "recompute";
 
-    fn help(&self) -> &'static str {
-        HELP
-    }
+    const HELP: &'static str =
+        "recompute [--strict] [FILE]\n\nReads a command file, FILE or standard input, keeps every reading and works everything out anew at each\ncommand. Prints the visits retracted and added, the refusals, and at the end the ledger.\n\n  --strict   end with status 1 if the file ends within a command or has one of unknown kind\n  --help     print this and end\n  --version  print the version and end\n";
 
-    fn process(&self, rt: &HostRuntime, _options: &Options, file: &[u8]) -> anyhow::Result<usize> {
-        let Some(report) = report::recompute(rt.alloc(), file)? else {
-            return Err(anyhow!("the file is shorter than its terms (24 bytes)"));
-        };
+    fn process(rt: &HostRuntime, _options: &Options, file: &[u8]) -> anyhow::Result<usize> {
+        let report = report::recompute(rt.alloc(), file)?.context(
+            "the file is shorter than its terms (24 bytes)",
+        )?;
         cli::output(rt, report.text.as_bytes())?;
         Ok(report.unread)
     }
 }
 
 fn main(rt: HostRuntime) -> ExitCode {
-    cli::run(&rt, &Recompute)
+    cli::run::<Recompute>(&rt)
 }

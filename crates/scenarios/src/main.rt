@@ -8,8 +8,6 @@ mod random;
 #[cfg(test)]
 mod tests;
 
-use anyhow::anyhow;
-use convert::PackError;
 use named::DAYS;
 use report::Report;
 use std::alloc::Global;
@@ -31,11 +29,7 @@ fn packed(heap: Global, text: &str) -> anyhow::Result<Vec<u8>> {
     if text.is_empty() {
         return Ok(Vec::new(heap));
     }
-    match convert::pack(heap, text.as_bytes()) {
-        Ok(file) => Ok(file),
-        Err(PackError::BadLine(line)) => Err(anyhow!(format!(in heap; "{line}")?)),
-        Err(PackError::NoMemory) => Err(anyhow!("out of memory")),
-    }
+    Ok(convert::pack(heap, text.as_bytes())?)
 }
 
 fn named_day(heap: Global, name: &str, text: &str, tail: &[u8]) -> anyhow::Result<Day> {
@@ -56,30 +50,25 @@ fn random_day(heap: Global, seed: u64) -> anyhow::Result<Day> {
 
 // The store must print what the reference prints; a difference is shown, and is not in the expected output.
 fn compare(rt: &HostRuntime, day: &Day, expected: &Report) -> anyhow::Result<()> {
-    let settled = report::by_store::settle(rt.alloc(), FULL, day.file.as_slice())?;
-    let same = match &settled {
-        Some(report) => report.text.as_str() == expected.text.as_str()
-            && report.unread == expected.unread,
-        None => false,
-    };
-    if !same {
+    let settled = report::by_store::settle(rt.alloc(), FULL, &day.file)?;
+    if settled.as_ref() != Some(expected) {
         println!(rt; "the store prints something else")?;
     }
     Ok(())
 }
 
 // Reports a day, or writes its file into a folder.
-fn show(rt: &HostRuntime, folder: &Option<String>, day: &Day) -> anyhow::Result<()> {
+fn show(rt: &HostRuntime, folder: Option<&str>, day: &Day) -> anyhow::Result<()> {
     let heap = rt.alloc();
     let name = day.name.as_str();
     if let Some(folder) = folder {
         let path = format!(in heap; "{folder}/{name}.cmd")?;
-        fs::write(rt, path.as_str(), day.file.as_slice())?;
+        fs::write(rt, path.as_str(), &day.file)?;
         println!(rt; "{name}")?;
         return Ok(());
     }
     println!(rt; "== {name}")?;
-    let Some(report) = report::recompute(heap, day.file.as_slice())? else {
+    let Some(report) = report::recompute(heap, &day.file)? else {
         println!(rt; "shorter than its terms")?;
         return Ok(());
     };
@@ -95,11 +84,12 @@ fn show(rt: &HostRuntime, folder: &Option<String>, day: &Day) -> anyhow::Result<
 fn run(rt: &HostRuntime) -> anyhow::Result<()> {
     let heap = rt.alloc();
     let folder = env::args(rt)?.nth(1);
+    let folder = folder.as_ref().map(|folder| folder.as_str());
     for (name, text, tail) in DAYS {
-        show(rt, &folder, &named_day(heap, name, text, tail)?)?;
+        show(rt, folder, &named_day(heap, name, text, tail)?)?;
     }
     for seed in 0..RANDOM_DAYS {
-        show(rt, &folder, &random_day(heap, seed)?)?;
+        show(rt, folder, &random_day(heap, seed)?)?;
     }
     Ok(())
 }

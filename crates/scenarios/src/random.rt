@@ -1,7 +1,7 @@
 // Random days by a seed: bursts, duplicates, late and too-late readings, watermarks that try to go back.
 use command::Command;
-use feed::files::{put_command, put_terms};
-use std::alloc::{AllocError, Global};
+use feed::files::{EncodeError, put_command, put_terms};
+use std::alloc::Global;
 use visit::{Reading, Terms};
 
 // Few commands, so that a store of 64 live visits and 256 readings has room for every day.
@@ -62,7 +62,7 @@ fn command(random: &mut Random, terms: Terms, clock: u64) -> Command {
     }
 }
 
-pub fn day(heap: Global, seed: u64) -> Result<Vec<u8>, AllocError> {
+pub fn day(heap: Global, seed: u64) -> Result<Vec<u8>, EncodeError> {
     let mut random = Random { state: seed };
     let terms = Terms {
         gap: random.one_of([0, 1, 10, 40]),
@@ -76,9 +76,7 @@ pub fn day(heap: Global, seed: u64) -> Result<Vec<u8>, AllocError> {
         if random.below(2) == 0 {
             clock = clock.saturating_add(random.below(terms.gap.saturating_add(4)));
         }
-        if put_command(&mut file, command(&mut random, terms, clock)).is_err() {
-            return Err(AllocError);
-        }
+        put_command(&mut file, command(&mut random, terms, clock))?;
     }
     Ok(file)
 }
