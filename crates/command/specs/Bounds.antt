@@ -1,6 +1,7 @@
 -- The bounds of terms and commands, and the refusals that they bring.
 use Rattle.std.specs.Prelude.{ℕ, ◌+◌, ◌^◌, cond, List, [], ◌∷◌, Some, None, Ok, Err, Option, Result, ◌==◌, nat_lt}
 use Rattle.std.specs.Option.{option_map}
+use Rattle.visit.specs.Limits.{time_limit}
 use Rattle.visit.specs.declared.Terms.{Terms}
 use Rattle.command.specs.declared.Command.{Command}
 use Rattle.command.specs.declared.Command.TheVariants.{Reading, Watermark}
@@ -10,10 +11,6 @@ use Rattle.command.specs.declared.Refusal.TheVariants.{BadTerms, BadCommand}
 -- Cards, serials and amounts are below this.
 abbrev pub word_limit : ℕ
 word_limit = 2 ^ 32
-
--- Times, the watermark, gap and lateness are below this.
-abbrev pub time_limit : ℕ
-time_limit = 2 ^ 40
 
 -- Gap, lateness and day length have the places 0, 1 and 2; the first that is out of its bounds counts.
 abbrev pub terms_fault : Terms → Option Refusal

@@ -1,9 +1,10 @@
-// A command as the row of numbers in which it is handed to a store: its kind, and behind it its own numbers.
+// A command as the row of numbers in which it is handed to a store: its kind, a number there since callers have rows of numbers, and behind it its own.
 ghost use Rattle.command.specs.Cells.{command_cells, read_command};
 ghost use Rattle.std.specs.Prelude.{◌≡◌};
 
 use crate::{Command, Refusal};
 use visit::Reading;
+use visit::cells::READING_WIDTH;
 
 // How many numbers the row has.
 pub const COMMAND_WIDTH: usize = 5;
@@ -13,7 +14,10 @@ impl From<Command> for [u64; COMMAND_WIDTH] {
 
     fn from(command: Command) -> [u64; COMMAND_WIDTH] {
         match command {
-            Command::Reading(e) => [0, e.card, e.time, e.serial, e.amount],
+            Command::Reading(reading) => {
+                let [card, time, serial, amount]: [u64; READING_WIDTH] = reading.into();
+                [0, card, time, serial, amount]
+            }
             Command::Watermark(time) => [1, time, 0, 0, 0],
         }
     }
@@ -30,12 +34,7 @@ impl TryFrom<&[u64]> for Command {
             return Err(Refusal::BadCommand(row.len() as u64));
         };
         let command = match *kind {
-            0 => Command::Reading(Reading {
-                card: *first,
-                time: *second,
-                serial: *third,
-                amount: *fourth,
-            }),
+            0 => Command::Reading(Reading::from([*first, *second, *third, *fourth])),
             1 => Command::Watermark(*first),
             _ => return Err(Refusal::BadCommand(0)),
         };

@@ -8,12 +8,11 @@ ghost use Rattle.std.specs.Prelude.{◌≡◌};
 pub mod cells;
 mod text;
 
+pub use visit::TIME_LIMIT;
 use visit::{Reading, Terms, Visit};
 
 // Cards, serials and amounts are below this.
 pub const WORD_LIMIT: u64 = 1 << 32;
-// Times, the watermark, gap and lateness are below this.
-pub const TIME_LIMIT: u64 = 1 << 40;
 
 #[derive(Clone, Copy, PartialEq, Eq, Debug)]
 pub enum Command {
@@ -21,7 +20,7 @@ pub enum Command {
     Watermark(u64),
 }
 
-// Why a command is not done. Each case holds its place.
+// Why a command is not done. Each case holds its place: an index into the caller's row, which is printed and never chosen by.
 #[derive(Clone, Copy, PartialEq, Eq, Debug)]
 pub enum Refusal {
     BadStore(u64),
@@ -90,6 +89,7 @@ impl Command {
     }
 }
 
+// A match each: a derive gives neither the number of a case nor what it holds.
 impl Refusal {
     pub fn number(self) -> u64
         ensures { result ≡ Number self }
@@ -126,18 +126,12 @@ impl Refusal {
 pub fn reply_number(reply: Reply) -> u64
     ensures { result ≡ reply_number reply }
 {
-    match reply {
-        Ok(_) => 0,
-        Err(refusal) => refusal.number(),
-    }
+    reply.err().map_or(0, |refusal| refusal.number())
 }
 
 // How many visits changed, or the refusal's place.
 pub fn reply_value(reply: Reply) -> u64
     ensures { result ≡ reply_value reply }
 {
-    match reply {
-        Ok(changed) => changed,
-        Err(refusal) => refusal.place(),
-    }
+    reply.unwrap_or_else(|refusal| refusal.place())
 }

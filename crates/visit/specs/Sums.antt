@@ -1,5 +1,5 @@
 -- Sums over a whole list, by which every sum of a visit or a line is seen to fit in 64 bits.
-use Rattle.std.specs.Prelude.{ℕ, List, sum_by}
+use Rattle.std.specs.Prelude.{ℕ, ◌+◌, ◌^◌, ◌<◌, List, sum_by}
 use Rattle.visit.specs.declared.Line.{Line}
 use Rattle.visit.specs.declared.Reading.{Reading}
 use Rattle.visit.specs.declared.Visit.{Visit}
@@ -12,6 +12,11 @@ counts vs = sum_by (λ v. v.count) vs
 
 abbrev pub sums : List Visit → ℕ
 sums vs = sum_by (λ v. v.sum) vs
+
+-- Of visits, and so many readings more that come to so much, counts and sums fit in 64 bits.
+pub record SumsFit (vs : List Visit) (readings amount : ℕ) : Type 0 where
+  pub count : counts vs + readings < 2 ^ 64
+  pub sum : sums vs + amount < 2 ^ 64
 
 abbrev pub line_visits : List Line → ℕ
 line_visits ls = sum_by (λ l. l.visits) ls

@@ -1,5 +1,6 @@
 -- How terms, readings, visits and lines are written: decimal numbers, single spaces.
-use Rattle.std.specs.Prelude.{ℕ, List, ◌++◌, codes, decimal}
+use Rattle.std.specs.Prelude.{◌≡◌, ℕ, List, ◌++◌, codes, decimal, OnOk, Result, String, string_bytes}
+use Rattle.std.specs.declared.alloc.Global.{Global}
 use Rattle.visit.specs.declared.Line.{Line}
 use Rattle.visit.specs.declared.Reading.{Reading}
 use Rattle.visit.specs.declared.Terms.{Terms}
@@ -24,3 +25,7 @@ line_text l =
     codes "card "
     ++ (decimal l.card
     ++ (codes " day " ++ (decimal l.day ++ (codes " visits " ++ (decimal l.visits ++ (codes " sum " ++ decimal l.sum))))))
+
+-- More is put behind a text. Of a failure nothing is said.
+abbrev pub Puts : {T E : Type 0} → Result T E → (before : String Global) → (more : List ℕ) → (after : String Global) → Type 0
+Puts r before more after = OnOk r (string_bytes after ≡ string_bytes before ++ more)

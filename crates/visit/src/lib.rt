@@ -1,13 +1,19 @@
 // Readings, visits, ledger lines and the terms: values by value, and the named tests on them.
 #![tactic(auto)]
 
-ghost use Rattle.std.specs.Prelude.{◌≡◌, ◌+◌, ◌^◌, ◌<◌, Bool};
+ghost use Rattle.std.specs.Prelude.{◌≡◌, ◌+◌, ◌^◌, ◌<◌};
 ghost use Rattle.visit.specs.Lines.{day_of, line_before, line_minus, line_of, line_plus, same_key};
 ghost use Rattle.visit.specs.Readings.{gap_of, reading_before, same_reading, kept as Kept, too_late as Late};
 ghost use Rattle.visit.specs.Visits.{grown as Grown, joins as Joins, merged, near as Near, same_visit, single as Single, visit_before, closed as Closed, expired as Expired, live as Live};
-ghost use Rattle.visit.specs.declared.Terms.{Terms};
 
+pub mod cells;
+mod order;
 mod text;
+
+pub use order::{Ordered, place};
+
+// Times, the watermark, gap and lateness are below this.
+pub const TIME_LIMIT: u64 = 1 << 40;
 
 // One reading of a card. At one time the serial tells several readings of a card apart.
 #[derive(Clone, Copy, PartialEq, Eq, Debug)]
@@ -52,14 +58,7 @@ pub struct Clock {
     pub watermark: u64,
 }
 
-// What stands in an order under the terms.
-pub trait Ordered: Copy {
-    ghost precedes: { Terms → Self → Self → Bool };
-
-    fn before(self, other: Self, terms: Terms) -> bool
-        ensures { result ≡ precedes terms self other };
-}
-
+#[tactic(auto, using(std::proofs::lemmas::Bool::Decides::nat_tests), unfolding(crate::specs::Readings::gap_of, crate::specs::Lines::day_of))]
 impl Terms {
     pub fn gap_of(self, _card: u64) -> u64
         ensures { result ≡ gap_of self _card }
@@ -75,6 +74,7 @@ impl Terms {
     }
 }
 
+#[tactic(auto, using(std::proofs::lemmas::Bool::Decides::nat_tests), unfolding(crate::specs::Readings::same_reading, crate::specs::Readings::too_late, crate::specs::Readings::kept, crate::specs::Visits::joins))]
 impl Reading {
     // Whether it is the same reading, which may say another amount.
     pub fn same(self, other: Reading, _terms: Terms) -> bool
@@ -117,6 +117,7 @@ impl Reading {
     }
 }
 
+#[tactic(auto, using(crate::proofs::Orders::triple_before), unfolding(crate::specs::Readings::reading_before))]
 impl Ordered for Reading {
     ghost precedes = { reading_before };
 
@@ -125,6 +126,7 @@ impl Ordered for Reading {
     }
 }
 
+#[tactic(auto, using(std::proofs::lemmas::Bool::Decides::nat_tests), unfolding(crate::specs::Visits::near, crate::specs::Visits::same_visit, crate::specs::Visits::closed, crate::specs::Visits::expired, crate::specs::Visits::live, crate::specs::Lines::line_of))]
 impl Visit {
     // The visit with a reading put before its first.
     pub fn grown(self, reading: Reading) -> Visit
@@ -206,6 +208,7 @@ impl Visit {
     }
 }
 
+#[tactic(auto, using(crate::proofs::Orders::pair_before), unfolding(crate::specs::Visits::visit_before))]
 impl Ordered for Visit {
     ghost precedes = { visit_before };
 
@@ -214,6 +217,7 @@ impl Ordered for Visit {
     }
 }
 
+#[tactic(auto, using(std::proofs::lemmas::Bool::Decides::nat_tests), unfolding(crate::specs::Lines::same_key))]
 impl Line {
     pub fn same_key(self, other: Line, _terms: Terms) -> bool
         ensures { result ≡ same_key _terms self other }
@@ -248,6 +252,7 @@ impl Line {
     }
 }
 
+#[tactic(auto, using(crate::proofs::Orders::pair_before), unfolding(crate::specs::Lines::line_before))]
 impl Ordered for Line {
     ghost precedes = { line_before };
 
