@@ -1,8 +1,9 @@
 -- A visit merged in, by the visits that it takes in, those that are left, and what it becomes.
-use Rattle.std.proofs.Common.{◌≡◌, ℕ, Bool, true, false, not, ◌&&◌, ◌||◌, List, [], ◌∷◌, ◌++◌, length, take, drop, filter, sym, refl, ap, ◌∙◌}
+use Rattle.std.proofs.Common.{◌≡◌, ℕ, Bool, false, not, ◌&&◌, ◌||◌, List, [], ◌∷◌, ◌++◌, length, take, drop, filter, sym, refl, ap, ◌∙◌, arith}
 use Rattle.std.specs.List.{AllByRecursion}
 use Rattle.std.proofs.ByRecursion.{All-weaker}
 use Rattle.std.proofs.lemmas.List.{drop_at, take_at}
+use Rattle.std.proofs.lemmas.Bool.Decides.{nat_tests}
 use Rattle.std.proofs.lemmas.Bool.{and_right, or_left, or_right}
 use Rattle.visit.specs.declared.Terms.{Terms}
 use Rattle.visit.specs.declared.Visit.{Visit}
@@ -14,38 +15,21 @@ use Rattle.live.specs.Walk.{became, left_over, placed_of, taken_in}
 use Rattle.changes.specs.Changed.{ByComparing, closed_besides, retracted_rows}
 use Rattle.changes.proofs.Differences.{closed_difference}
 
-or_swap : (a b c : Bool) → (a || (b || c)) ≡ (b || (a || c))
-or_swap true true c = refl
-or_swap true false c = refl
-or_swap false b c = refl
-
-or_join : (a b c : Bool) → (a || (b || c)) ≡ ((a || b) || c)
-or_join true b c = refl
-or_join false b c = refl
-
-or_none : (a : Bool) → a ≡ (a || false)
-or_none true = refl
-or_none false = refl
-
 module _ (t : Terms) (p : Visit → Bool) where
   -- Whether some visit passes a test, of the visits before and of those after.
   pub some_before : (v : Visit) (vs : List Visit) → some p vs ≡ (some p (left_over t v vs) || some p (taken_in t v vs))
   some_before v [] = refl
   some_before v (w ∷ ws) =
       split (near t v w)
-      (λ n. simp n (ap (λ b. p w || b) (some_before (merged v w) ws) ∙ or_swap (p w) (some p (left_over t (merged v w) ws)) (some p (taken_in t (merged v w) ws))))
-      (λ n. split (visit_before t w v)
-      (λ b. simp (n, b) (ap (λ b. p w || b) (some_before v ws) ∙ or_join (p w) (some p (left_over t v ws)) (some p (taken_in t v ws))))
-      (λ b. simp (n, b) (or_none (p w || some p ws))))
+      (λ n. let ih = some_before (merged v w) ws in grind (arith, nat_tests))
+      (λ n. split (visit_before t w v) (λ b. let ih = some_before v ws in grind (arith, nat_tests)) (λ b. grind (arith, nat_tests)))
 
   pub some_after : (v : Visit) (vs : List Visit) → some p (merge_in t v vs) ≡ (p (became t v vs) || some p (left_over t v vs))
   some_after v [] = refl
   some_after v (w ∷ ws) =
       split (near t v w)
-      (λ n. simp n (some_after (merged v w) ws))
-      (λ n. split (visit_before t w v)
-      (λ b. simp (n, b) (ap (λ b. p w || b) (some_after v ws) ∙ or_swap (p w) (p (became t v ws)) (some p (left_over t v ws))))
-      (λ b. simp (n, b)))
+      (λ n. let ih = some_after (merged v w) ws in grind (arith, nat_tests))
+      (λ n. split (visit_before t w v) (λ b. let ih = some_after v ws in grind (arith, nat_tests)) (λ b. grind (arith, nat_tests)))
 
   -- Where none of those left passes, only those taken in may pass before, and only what they become after.
   pub kept_before : (v : Visit) (vs : List Visit) → AllByRecursion (λ w. p w ≡ false) (left_over t v vs) → filter p vs ≡ filter p (taken_in t v vs)

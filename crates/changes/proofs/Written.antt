@@ -26,8 +26,9 @@ Standing rs xs ys = drop out_head ys ≡ cells_of visit_cells rs ++ drop (length
 pub standing_lent : (rs : List Visit) (xs zs : List ℕ) (r : ℕ) → out_head ≤ length xs → r ≡ length rs
     → zs ≡ cells_of visit_cells rs ++ drop (r * visit_width) (take (length xs - out_head) (drop out_head xs)) → Standing rs xs (put_mid out_head (length xs - out_head) xs zs)
 standing_lent rs xs zs r h many stored =
-    drop_lent out_head xs zs h ∙ stored
-    ∙ ap (λ l. cells_of visit_cells rs ++ drop (r * visit_width) l) (take_rest xs out_head) ∙ ap (λ k. cells_of visit_cells rs ++ drop (k * visit_width) (drop out_head xs)) many
+    let lent = drop_lent out_head xs zs h in
+    let all = take_rest xs out_head in
+    cc (lent, stored, all, many)
 
 standing_more : (rs ss : List Visit) (xs ys zs : List ℕ) (k l : ℕ) → Standing rs xs ys → k ≡ length rs → l ≡ length ss
     → drop out_head zs ≡ take (k * visit_width) (drop out_head ys) ++ (cells_of visit_cells ss ++ drop ((k + l) * visit_width) (drop out_head ys))
@@ -36,23 +37,19 @@ standing_more rs ss xs ys zs k l so p q stored =
     let start = length rs * visit_width in
     let end : (k + l) * visit_width ≡ start + length ss * visit_width = omega arith in
     let many : start + length ss * visit_width ≡ length (rs ++ ss) * visit_width = omega (arith, length-append rs ss) in
-    stored
-    ∙ ap (λ n. take (n * visit_width) (drop out_head ys) ++ (cells_of visit_cells ss ++ drop ((k + l) * visit_width) (drop out_head ys))) p
-    ∙ ap (λ n. take start (drop out_head ys) ++ (cells_of visit_cells ss ++ drop n (drop out_head ys))) end
-    ∙ write_next start (length ss * visit_width) (cells_of visit_cells rs) (drop out_head xs) (drop out_head ys) (cells_of visit_cells ss) (length_cells visit_laws rs) so
-    ∙ ap (λ n. (cells_of visit_cells rs ++ cells_of visit_cells ss) ++ drop n (drop out_head xs)) many
-    ∙ ap (λ c. c ++ drop (length (rs ++ ss) * visit_width) (drop out_head xs)) (sym (flat_map-append visit_cells rs ss))
+    let joined = write_next start (length ss * visit_width) (cells_of visit_cells rs) (drop out_head xs) (drop out_head ys) (cells_of visit_cells ss) (length_cells visit_laws rs) so in
+    let cells = flat_map-append visit_cells rs ss in
+    cc (stored, p, end, joined, many, cells)
 
 -- With the counts the row is written.
 pub counted : (gone new : List Visit) (xs ys zs : List ℕ) (a b : ℕ) → Standing (gone ++ new) xs ys → a ≡ length gone → b ≡ length new → zs ≡ a ∷ b ∷ drop out_head ys
     → zs ≡ overlay (change_row gone new) xs
 counted gone new xs ys zs a b so p q stored =
-    let cells = cells_of visit_cells gone ++ cells_of visit_cells new in
-    let end : length (gone ++ new) * visit_width + out_head ≡ length (change_row gone new) = omega (arith, length-append gone new, length_change_row gone new) in
-    let behind : drop (length (gone ++ new) * visit_width) (drop out_head xs) ≡ drop (length (change_row gone new)) xs =
-    drop-drop (length (gone ++ new) * visit_width) out_head xs ∙ ap (λ n. drop n xs) (let e : out_head + length (gone ++ new) * visit_width ≡ length (change_row gone new) = omega arith in e) in
-    stored ∙ ap (λ l. a ∷ b ∷ l) (so ∙ ap (λ c. c ++ drop (length (gone ++ new) * visit_width) (drop out_head xs)) (flat_map-append visit_cells gone new) ∙ ap (λ l. cells ++ l) behind)
-    ∙ ap (λ n. n ∷ b ∷ (cells ++ drop (length (change_row gone new)) xs)) p ∙ ap (λ n. length gone ∷ n ∷ (cells ++ drop (length (change_row gone new)) xs)) q
+    let n = length (gone ++ new) * visit_width in
+    let end : out_head + n ≡ length (change_row gone new) = omega (arith, length-append gone new, length_change_row gone new) in
+    let behind = drop-drop n out_head xs in
+    let cells = flat_map-append visit_cells gone new in
+    cc (stored, so, cells, behind, end, p, q)
 
 -- The visit z if a test says so, as an option and as a list.
 listed : (b : Bool) (z : Visit) → option_to_list (then_some b z) ≡ cond b (z ∷ []) []
@@ -77,17 +74,16 @@ pub added_written : (k r : ℕ) (new : List Visit) (xs zs us : List ℕ) → out
     → us ≡ k ∷ r ∷ drop out_head (put_mid (out_head + k * visit_width) (length xs - (out_head + k * visit_width)) xs zs) → us ≡ with_added k new xs
 added_written k r new xs zs us h many stored written =
     let a = out_head + k * visit_width in
-    let none : length (drop a xs) ≤ length xs - a = simp length-drop (omega arith) in
+    let n = (k + length new) * visit_width in
+    let room = length xs - a in
+    let none : length (drop a xs) ≤ room = simp length-drop (omega arith) in
     let front : out_head ≤ length (take a xs) = rw (length-take-le a xs h) (omega arith) in
-    let rest = drop ((k + length new) * visit_width) (drop out_head xs) in
-    let end : a + r * visit_width ≡ out_head + (k + length new) * visit_width = omega arith in
-    let behind : zs ≡ cells_of visit_cells new ++ rest =
-    stored
-    ∙ ap (λ l. cells_of visit_cells new ++ drop (r * visit_width) l) (take_rest xs a)
-    ∙ ap (λ l. cells_of visit_cells new ++ l) (drop-drop (r * visit_width) a xs ∙ ap (λ n. drop n xs) end ∙ sym (drop-drop ((k + length new) * visit_width) out_head xs)) in
-    let lent : drop out_head (put_mid a (length xs - a) xs zs) ≡ take (k * visit_width) (drop out_head xs) ++ (cells_of visit_cells new ++ rest) =
-    drop-append-le out_head (take a xs) _ front
-    ∙ ap (λ l. l ++ (zs ++ drop (length xs - a) (drop a xs))) (drop-take out_head (k * visit_width) xs)
-    ∙ ap (λ l. take (k * visit_width) (drop out_head xs) ++ (zs ++ l)) (drop_all (length xs - a) (drop a xs) none)
-    ∙ ap (λ l. take (k * visit_width) (drop out_head xs) ++ l) (append-nil zs ∙ behind) in
-    written ∙ ap (λ l. k ∷ r ∷ l) lent ∙ ap (λ n. k ∷ n ∷ (take (k * visit_width) (drop out_head xs) ++ (cells_of visit_cells new ++ rest))) many
+    let end : a + r * visit_width ≡ out_head + n = omega arith in
+    let all = take_rest xs a in
+    let past = drop-drop (r * visit_width) a xs in
+    let behind = drop-drop n out_head xs in
+    let counts = drop-append-le out_head (take a xs) (zs ++ drop room (drop a xs)) front in
+    let gone = drop-take out_head (k * visit_width) xs in
+    let over = drop_all room (drop a xs) none in
+    let nothing = append-nil zs in
+    cc (written, stored, all, past, end, behind, counts, gone, over, nothing, many)

@@ -1,5 +1,5 @@
 -- The row `out`: how many visits are retracted, how many are added, then the visits, the retracted ones first.
-use Rattle.std.specs.Prelude.{ℕ, ◌+◌, ◌*◌, List, [], ◌∷◌, ◌++◌, length, take, drop}
+use Rattle.std.specs.Prelude.{◌≡◌, ℕ, ◌+◌, ◌*◌, ◌≤◌, List, [], ◌∷◌, ◌++◌, length, take, drop}
 use Rattle.visit.specs.declared.Visit.{Visit}
 use Rattle.command.specs.Outcomes.{Outcome, changed, refused}
 use Rattle.rows.specs.Out.{out_head}
@@ -21,6 +21,15 @@ outcome_count (refused r) = 0
 -- A row written over the front of another: everything behind it stays as it was.
 abbrev pub overlay : List ℕ → List ℕ → List ℕ
 overlay row out = row ++ drop (length row) out
+
+-- `out` with an outcome at its front, and how many visits that has.
+pub record OutAfter (o : Outcome) (count : ℕ) (old new : List ℕ) : Type 0 where
+  pub many : count ≡ outcome_count o
+  pub out : new ≡ overlay (outcome_row o) old
+
+-- `out` has room for its counts and so many visits.
+abbrev pub OutHolds : ℕ → List ℕ → Type 0
+OutHolds n out = out_head + n * visit_width ≤ length out
 
 -- `out` with its counts, where k visits retracted stand in it and the ones added are put behind them.
 abbrev pub with_added : ℕ → List Visit → List ℕ → List ℕ

@@ -2,7 +2,7 @@
 ghost use Rattle.std.specs.Prelude.{◌≡◌, ◌+◌, ◌*◌, ◌≤◌, length};
 ghost use Rattle.changes.specs.Changed.{met_changes};
 ghost use Rattle.rows.specs.Out.{out_head};
-ghost use Rattle.changes.specs.Out.{outcome_count, outcome_row, overlay};
+ghost use Rattle.changes.specs.Out.{OutAfter, OutHolds};
 ghost use Rattle.rows.specs.Visits.{visit_width};
 
 use crate::out::put_added;
@@ -12,9 +12,8 @@ use visit::{Clock, Visit};
 
 // The visits that a reading's own is near to, and the visit that they become with it: how many visits changed.
 pub fn by_reading_apart(near: &[Visit], made: Visit, clock: Clock, out: &mut [u64]) -> usize
-    requires { out_head + (length near.now + 1) * visit_width ≤ length out.old }
-    ensures many { result ≡ outcome_count (met_changes clock.terms clock.watermark made near.now) }
-    ensures out { out.new ≡ overlay (outcome_row (met_changes clock.terms clock.watermark made near.now)) out.old }
+    requires { OutHolds (length near.now + 1) out.old }
+    ensures { OutAfter (met_changes clock.terms clock.watermark made near.now) result out.old out.new }
 {
     let gone = near.iter().copied().filter(|visit| visit.closed(clock));
     let retracted = put_rows(&mut out[OUT_HEAD..], gone);

@@ -1,13 +1,14 @@
 // The row that is written: the two counts in front, behind them the visits.
 ghost use Rattle.std.specs.Prelude.{◌≡◌, ◌+◌, ◌*◌, ◌≤◌, ◌∷◌, length, drop, option_to_list};
 ghost use Rattle.rows.specs.Out.{out_head};
-ghost use Rattle.changes.specs.Out.{with_added};
+ghost use Rattle.changes.specs.Out.{OutHolds, with_added};
 ghost use Rattle.changes.specs.Room.{out_width};
 ghost use Rattle.rows.specs.Visits.{visit_width};
 
 use rows::access::put_rows;
 use rows::out::OUT_HEAD;
 use rows::row::Row;
+use rows::visits::VISIT_WIDTH;
 use visit::Visit;
 
 // A store has room for so many live visits, and a reading is near to two at most where these are apart.
@@ -16,10 +17,13 @@ pub const LIVE_MOST: usize = 1024;
 pub const NEAR_MOST: usize = 2;
 
 // How many numbers the row has to have.
+pub const OUT_WIDTH: usize = OUT_HEAD + (NEAR_MOST + LIVE_MOST) * VISIT_WIDTH;
+
+// The same, as the definition says it: a constant has no clause.
 pub fn width() -> usize
     ensures { result ≡ out_width }
 {
-    OUT_HEAD + (NEAR_MOST + LIVE_MOST) * Visit::WIDTH
+    OUT_WIDTH
 }
 
 pub(crate) fn put_counts(out: &mut [u64], retracted: usize, added: usize)
@@ -30,9 +34,9 @@ pub(crate) fn put_counts(out: &mut [u64], retracted: usize, added: usize)
     out[1] = added as u64;
 }
 
-// The counts, and behind the visits retracted the one that is added, if any: how many there are then.
+// What is common to changes by a reading, on any visits and on visits apart: the counts, and behind the visits retracted the one that is added, if any: how many there are then.
 pub(crate) fn put_added(out: &mut [u64], retracted: usize, added: Option<Visit>) -> usize
-    requires { out_head + (retracted + 1) * visit_width ≤ length out.old }
+    requires { OutHolds (retracted + 1) out.old }
     ensures many { result ≡ retracted + length (option_to_list added) }
     ensures out { out.new ≡ with_added retracted (option_to_list added) out.old }
 {

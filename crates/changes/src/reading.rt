@@ -2,40 +2,30 @@
 ghost use Rattle.std.specs.Prelude.{◌≡◌, ◌+◌, ◌*◌, ◌≤◌, length};
 ghost use Rattle.changes.specs.Changed.{closed_besides, compared};
 ghost use Rattle.rows.specs.Out.{out_head};
-ghost use Rattle.changes.specs.Out.{outcome_count, outcome_row, overlay};
+ghost use Rattle.changes.specs.Out.{OutAfter, OutHolds};
 ghost use Rattle.rows.specs.Tables.{rows_seen};
 ghost use Rattle.rows.specs.Visits.{visit_width};
-ghost use Rattle.model.specs.Sessions.{some};
-ghost use Rattle.visit.specs.Visits.{same_visit};
 
 use crate::out::put_added;
 use live::merging::Placed;
 use rows::access::put_rows;
 use rows::out::OUT_HEAD;
 use rows::table::Rows;
-use visit::{Clock, Terms, Visit};
-
-// Whether the visit is the same as one of these.
-fn among(rows: Rows<'_, Visit>, visit: Visit, terms: Terms) -> bool
-    ensures { result ≡ some (same_visit terms visit) (rows_seen rows.entry) }
-{
-    rows.iter().any(|row| visit.same(row, terms))
-}
+use visit::{Clock, Visit};
 
 // Whether the visit is closed and the same as none of these.
 fn closed_besides(rows: Rows<'_, Visit>, visit: Visit, clock: Clock) -> bool
     ensures { result ≡ closed_besides clock.terms clock.watermark (rows_seen rows.entry) visit }
 {
-    visit.closed(clock) && !among(rows, visit, clock.terms)
+    visit.closed(clock) && !rows.iter().any(|row| visit.same(row, clock.terms))
 }
 
 // After a visit has taken in others and before it is put into the table: the rows that are left stand first, behind them those
 // that were taken in. How many visits changed.
 pub fn by_reading(rows: Rows<'_, Visit>, placed: Placed, clock: Clock, out: &mut [u64]) -> usize
     requires place { placed.others ≤ rows.len }
-    requires room { out_head + (rows.len + 1) * visit_width ≤ length out.old }
-    ensures many { result ≡ outcome_count (compared clock.terms clock.watermark placed (rows_seen rows.entry)) }
-    ensures out { out.new ≡ overlay (outcome_row (compared clock.terms clock.watermark placed (rows_seen rows.entry))) out.old }
+    requires room { OutHolds (rows.len + 1) out.old }
+    ensures { OutAfter (compared clock.terms clock.watermark placed (rows_seen rows.entry)) result out.old out.new }
 {
     let Placed { visit, others, .. } = placed;
     let (left, taken) = rows.split_at(others);

@@ -33,6 +33,7 @@ fn visit(card: u64, from: u64, to: u64, count: u64, sum: u64) -> Visit {
 }
 
 // The watermarks before and after; or how many rows are left, what became of the others, and the watermark.
+// An enum, so that one table has both kinds of case.
 #[derive(Clone, Copy)]
 enum By {
     Watermark(u64, u64),

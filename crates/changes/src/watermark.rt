@@ -3,7 +3,7 @@ ghost use Rattle.std.specs.Prelude.{◌≡◌, ◌+◌, ◌*◌, ◌≤◌, leng
 ghost use Rattle.changes.specs.Changed.{rise};
 ghost use Rattle.rows.specs.Out.{out_head};
 ghost use Rattle.rows.specs.Tables.{rows_seen};
-ghost use Rattle.changes.specs.Out.{outcome_count, outcome_row, overlay};
+ghost use Rattle.changes.specs.Out.{OutAfter, OutHolds};
 ghost use Rattle.rows.specs.Visits.{visit_width};
 
 use crate::out::put_counts;
@@ -15,9 +15,8 @@ use visit::{Clock, Visit};
 // The visits stay, and the watermark goes from one time to a later one: how many visits changed.
 pub fn by_watermark(rows: Rows<'_, Visit>, clock: Clock, to: u64, out: &mut [u64]) -> usize
     requires order { clock.watermark ≤ to }
-    requires room { out_head + rows.len * visit_width ≤ length out.old }
-    ensures many { result ≡ outcome_count (rise clock.terms clock.watermark to (rows_seen rows.entry)) }
-    ensures out { out.new ≡ overlay (outcome_row (rise clock.terms clock.watermark to (rows_seen rows.entry))) out.old }
+    requires room { OutHolds rows.len out.old }
+    ensures { OutAfter (rise clock.terms clock.watermark to (rows_seen rows.entry)) result out.old out.new }
 {
     let later = Clock {
         watermark: to,

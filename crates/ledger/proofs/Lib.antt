@@ -1,5 +1,4 @@
 pub mod Places
-pub mod Held
 pub mod Entries
 pub mod Fitting
 pub mod Visits

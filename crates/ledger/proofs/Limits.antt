@@ -1,22 +1,16 @@
--- Lines and visits that are within their limits leave room for more.
-use Rattle.std.proofs.Common.{◌≡◌, ℕ, ◌*◌, ◌^◌, ◌<◌, ◌≤◌, List, length, None, arith}
+-- Lines that are within their limits leave room for more.
+use Rattle.std.proofs.Common.{◌≡◌, ℕ, ◌^◌, ◌<◌, ◌≤◌, List, None, arith}
 use Rattle.std.specs.List.{AllByRecursion}
-use Rattle.std.proofs.ByRecursion.{All-weaker, sum_by_le}
+use Rattle.std.proofs.ByRecursion.{All-weaker}
 use Rattle.std.proofs.lemmas.Bool.Decides.{nat_tests}
 use Rattle.visit.specs.declared.Line.{Line}
-use Rattle.visit.specs.declared.Visit.{Visit}
 use Rattle.rows.specs.Limits.{count_limit, first_over, sum_limit}
 use Rattle.rows.specs.Lines.{line_cells, line_limits}
-use Rattle.rows.specs.Visits.{visit_cells, visit_limits}
-use Rattle.visit.specs.Sums.{sums}
 use Rattle.ledger.specs.Fits.{Fits, FitsIn}
 
--- No number of a line, or of a visit, is over its limit.
+-- No number of a line is over its limit.
 abbrev pub LineWithin : Line → Type 0
 LineWithin l = first_over 0 line_limits (line_cells l) ≡ None
-
-abbrev pub VisitWithin : Visit → Type 0
-VisitWithin v = first_over 0 visit_limits (visit_cells v) ≡ None
 
 -- A line's limits are far below 64 bits, so 2^63 more visits of the sum 2^63 still fit.
 line_limited : (l : Line) → LineWithin l → (l.visits < count_limit) × (l.sum < sum_limit)
@@ -29,10 +23,3 @@ fits_within k s ls few small a =
       sum = omega arith;
       lines = All-weaker LineWithin (FitsIn k s) (λ l h. let b = line_limited l h in (omega (arith, b.0), omega (arith, b.1))) ls a;
     }
-
--- How much the sums of visits within their limits come to.
-visit_limited : (v : Visit) → VisitWithin v → v.sum ≤ sum_limit
-visit_limited v h = grind (arith, nat_tests)
-
-pub sums_within : (vs : List Visit) → AllByRecursion VisitWithin vs → sums vs ≤ length vs * sum_limit
-sums_within vs a = sum_by_le (λ (v : Visit). v.sum) sum_limit vs (All-weaker VisitWithin (λ v. v.sum ≤ sum_limit) visit_limited vs a)

@@ -1,6 +1,5 @@
 // Lines and visits taken from the ledger.
-ghost use Rattle.std.specs.Prelude.{◌≡◌};
-ghost use Rattle.rows.specs.Tables.{filled, rows_of, rows_seen};
+ghost use Rattle.rows.specs.Tables.{Becomes, rows_of, rows_seen};
 ghost use Rattle.model.specs.Ledger.{take_line, take_visits};
 
 use rows::table::{Rows, Table};
@@ -8,9 +7,7 @@ use visit::{Line, Terms, Visit};
 
 // Takes the line from the first of its key, if there is one.
 pub fn take(table: &mut Table<'_, Line>, line: Line, terms: Terms)
-    ensures same { table.new.cells.ghost_name ≡ table.old.cells.ghost_name }
-    ensures lines { rows_of table.new ≡ take_line terms line (rows_of table.old) }
-    ensures held { table.new.cells.now ≡ filled table.old table.old.len (take_line terms line (rows_of table.old)) }
+    ensures after { Becomes table.old table.new table.old.len (take_line terms line (rows_of table.old)) }
 {
     let Some(at) = table
         .rows()
@@ -29,9 +26,7 @@ pub fn take(table: &mut Table<'_, Line>, line: Line, terms: Terms)
 
 // Takes visits from the ledger, one after the other. Apart from `add_visits`, since adding asks for room and taking does not.
 pub fn take_visits(table: &mut Table<'_, Line>, visits: Rows<'_, Visit>, terms: Terms)
-    ensures same { table.new.cells.ghost_name ≡ table.old.cells.ghost_name }
-    ensures lines { rows_of table.new ≡ take_visits terms (rows_seen visits.entry) (rows_of table.old) }
-    ensures held { table.new.cells.now ≡ filled table.old table.old.len (take_visits terms (rows_seen visits.entry) (rows_of table.old)) }
+    ensures after { Becomes table.old table.new table.old.len (take_visits terms (rows_seen visits.entry) (rows_of table.old)) }
 {
     for visit in visits {
         take(table, visit.line(terms), terms);

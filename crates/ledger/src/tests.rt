@@ -126,10 +126,11 @@ fn post_within(cells: &mut [u64], n: usize, out: &[u64]) -> Option<usize> {
     let None = table.rows().first_over() else {
         return None;
     };
-    let None = ChangedRows::read(out).added.first_over() else {
+    let changed = ChangedRows::read(out);
+    let None = changed.added.first_over() else {
         return None;
     };
-    post(&mut table, out, terms);
+    post(&mut table, changed, terms);
     Some(table.len)
 }
 

@@ -1,5 +1,5 @@
-pub mod Held
 pub mod Parts
+pub mod Placing
 pub mod Stepping
 pub mod Aside
 pub mod Together

@@ -1,9 +1,8 @@
 // A visit merged into visits that are in order and apart, of which it is near to two at most.
-ghost use Rattle.std.specs.Prelude.{◌≡◌, ◌+◌, ◌*◌, ◌^◌, ◌<◌, ◌≤◌, max, length};
+ghost use Rattle.std.specs.Prelude.{◌≡◌, ◌+◌, ◌^◌, ◌<◌, ◌≤◌, max};
 ghost use Rattle.live.specs.Apart.{Apart, Gathers, own};
-ghost use Rattle.rows.specs.Tables.{filled, rows_of, rows_seen};
-ghost use Rattle.rows.specs.Visits.{visit_width};
-ghost use Rattle.visit.specs.Sums.{counts, sums};
+ghost use Rattle.rows.specs.Tables.{Becomes, HasRoom, rows_of, rows_seen};
+ghost use Rattle.visit.specs.Sums.{SumsFit};
 ghost use Rattle.model.specs.Few.{merged_with};
 ghost use Rattle.model.specs.Store.{merge_in};
 
@@ -28,6 +27,7 @@ pub fn gather(rows: Rows<'_, Visit>, visit: Visit, terms: Terms) -> Gathered
     ensures gathers { Gathers terms visit (rows_seen rows.entry) result }
 {
     let mut near = ArrayVec::new();
+    // Counted by hand, since the place is a part of the answer.
     let mut at = 0;
     for row in rows {
         match next_step(visit, row, terms) {
@@ -39,10 +39,9 @@ pub fn gather(rows: Rows<'_, Visit>, visit: Visit, terms: Terms) -> Gathered
     Gathered { visit, near, at }
 }
 
-// One visit of all that are gathered.
+// One visit of all that are gathered. By a loop: for a `fold` it would have to be shown of every step that it can be called.
 fn merge_all(gathered: &Gathered) -> Visit
-    requires count { (own gathered.now).count + counts gathered.now.near.items < 2 ^ 64 }
-    requires sum { (own gathered.now).sum + sums gathered.now.near.items < 2 ^ 64 }
+    requires { SumsFit gathered.now.near.items (own gathered.now).count (own gathered.now).sum }
     ensures { result ≡ merged_with (own gathered.now) gathered.now.near.items }
 {
     let mut whole = gathered.visit;
@@ -54,16 +53,12 @@ fn merge_all(gathered: &Gathered) -> Visit
 
 // The near visits give way to one. The terms are asked for only to say which are near.
 pub fn merge_apart(table: &mut Table<'_, Visit>, gathered: &Gathered, _terms: Terms)
-    requires room { table.old.len * visit_width + visit_width ≤ length table.old.cells.now }
+    requires room { HasRoom table.old 1 }
     requires order { (own gathered.now).from ≤ (own gathered.now).to }
     requires apart { Apart _terms (rows_of table.old) }
     requires gathers { Gathers _terms (own gathered.now) (rows_of table.old) gathered.now }
-    requires count { counts (rows_of table.old) + (own gathered.now).count < 2 ^ 64 }
-    requires sum { sums (rows_of table.old) + (own gathered.now).sum < 2 ^ 64 }
-    ensures same { table.new.cells.ghost_name ≡ table.old.cells.ghost_name }
-    ensures len { table.new.len ≡ length (merge_in _terms (own gathered.now) (rows_of table.old)) }
-    ensures rows { rows_of table.new ≡ merge_in _terms (own gathered.now) (rows_of table.old) }
-    ensures held { table.new.cells.now ≡ filled table.old (max table.old.len table.new.len) (merge_in _terms (own gathered.now) (rows_of table.old)) }
+    requires fits { SumsFit (rows_of table.old) (own gathered.now).count (own gathered.now).sum }
+    ensures after { Becomes table.old table.new (max table.old.len table.new.len) (merge_in _terms (own gathered.now) (rows_of table.old)) }
 {
     let whole = merge_all(gathered);
     table.replace(gathered.at, gathered.near.len(), &[whole]);

@@ -1,8 +1,7 @@
 // A visit merged into the visits of a table.
-ghost use Rattle.std.specs.Prelude.{◌≡◌, ◌+◌, ◌*◌, ◌^◌, ◌<◌, ◌≤◌, max, ◌++◌, length, take};
-ghost use Rattle.rows.specs.Tables.{filled, rows_of};
-ghost use Rattle.rows.specs.Visits.{visit_width};
-ghost use Rattle.visit.specs.Sums.{counts, sums};
+ghost use Rattle.std.specs.Prelude.{◌≡◌, ◌+◌, ◌^◌, ◌<◌, ◌≤◌, max, ◌++◌, take};
+ghost use Rattle.rows.specs.Tables.{Becomes, HasRoom, rows_of};
+ghost use Rattle.visit.specs.Sums.{SumsFit};
 ghost use Rattle.live.specs.Walk.{left_over, placed_of, taken_in};
 ghost use Rattle.model.specs.Store.{merge_in};
 ghost use Rattle.std.specs.List.{insert};
@@ -21,13 +20,9 @@ pub struct Placed {
 
 // From the front: ones before the visit are passed, near ones are taken in and move behind all others, where the caller can still read them.
 pub fn set_aside(table: &mut Table<'_, Visit>, visit: Visit, terms: Terms) -> Placed
-    requires count { counts (rows_of table.old) + visit.count < 2 ^ 64 }
-    requires sum { sums (rows_of table.old) + visit.sum < 2 ^ 64 }
-    ensures same { table.new.cells.ghost_name ≡ table.old.cells.ghost_name }
-    ensures len { table.new.len ≡ table.old.len }
+    requires fits { SumsFit (rows_of table.old) visit.count visit.sum }
     ensures placed { result ≡ placed_of terms visit (rows_of table.old) }
-    ensures rows { rows_of table.new ≡ left_over terms visit (rows_of table.old) ++ taken_in terms visit (rows_of table.old) }
-    ensures held { table.new.cells.now ≡ filled table.old table.old.len (left_over terms visit (rows_of table.old) ++ taken_in terms visit (rows_of table.old)) }
+    ensures after { Becomes table.old table.new table.old.len (left_over terms visit (rows_of table.old) ++ taken_in terms visit (rows_of table.old)) }
 {
     let mut grown = visit;
     let mut others = table.len;
@@ -57,11 +52,8 @@ pub fn set_aside(table: &mut Table<'_, Visit>, visit: Visit, terms: Terms) -> Pl
 pub fn place(table: &mut Table<'_, Visit>, placed: Placed)
     requires place { placed.at ≤ placed.others }
     requires few { placed.others ≤ table.old.len }
-    requires room { table.old.len * visit_width + visit_width ≤ length table.old.cells.now }
-    ensures same { table.new.cells.ghost_name ≡ table.old.cells.ghost_name }
-    ensures len { table.new.len ≡ placed.others + 1 }
-    ensures rows { rows_of table.new ≡ insert (take placed.others (rows_of table.old)) placed.at placed.visit }
-    ensures held { table.new.cells.now ≡ filled table.old (max table.old.len (placed.others + 1)) (insert (take placed.others (rows_of table.old)) placed.at placed.visit) }
+    requires room { HasRoom table.old 1 }
+    ensures after { Becomes table.old table.new (max table.old.len (placed.others + 1)) (insert (take placed.others (rows_of table.old)) placed.at placed.visit) }
 {
     table.truncate(placed.others);
     table.insert(placed.at, placed.visit);
@@ -69,14 +61,9 @@ pub fn place(table: &mut Table<'_, Visit>, placed: Placed)
 
 // Behind the visits cells that are no longer taken are 0, and the rest is as it was.
 pub fn merge(table: &mut Table<'_, Visit>, visit: Visit, terms: Terms)
-    requires room { table.old.len * visit_width + visit_width ≤ length table.old.cells.now }
-    requires count { counts (rows_of table.old) + visit.count < 2 ^ 64 }
-    requires sum { sums (rows_of table.old) + visit.sum < 2 ^ 64 }
-    ensures same { table.new.cells.ghost_name ≡ table.old.cells.ghost_name }
-    ensures few { table.new.len ≤ table.old.len + 1 }
-    ensures len { table.new.len ≡ length (merge_in terms visit (rows_of table.old)) }
-    ensures rows { rows_of table.new ≡ merge_in terms visit (rows_of table.old) }
-    ensures held { table.new.cells.now ≡ filled table.old (max table.old.len table.new.len) (merge_in terms visit (rows_of table.old)) }
+    requires room { HasRoom table.old 1 }
+    requires fits { SumsFit (rows_of table.old) visit.count visit.sum }
+    ensures after { Becomes table.old table.new (max table.old.len table.new.len) (merge_in terms visit (rows_of table.old)) }
 {
     let placed = set_aside(table, visit, terms);
     place(table, placed);

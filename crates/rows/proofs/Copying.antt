@@ -1,5 +1,5 @@
 -- Rows written one behind the other.
-use Rattle.std.proofs.Common.{◌≡◌, ℕ, ◌+◌, ◌*◌, List, [], ◌∷◌, ◌++◌, length, take, drop, refl, sym, ap, ◌∙◌, suc-mul, add_comm, zero-mul, add-one}
+use Rattle.std.proofs.Common.{◌≡◌, ℕ, ◌+◌, ◌*◌, List, [], ◌∷◌, ◌++◌, length, take, drop, sym, ap, ◌∙◌, suc-mul, add_comm, zero-mul, add-one}
 use Rattle.std.proofs.lemmas.List.{append_assoc, drop_at, drop-drop, flat_map_more, length-append, take_at}
 use Rattle.rows.specs.Rows.{Laws, cells_of}
 
@@ -18,9 +18,6 @@ module _ {R : Type 0} {w : ℕ} {made : List ℕ → R} {cells : R → List ℕ}
   -- The rows rs stand in es from its front on.
   abbrev pub Written : List R → ℕ → List ℕ → List ℕ → Type 0
   Written rs k es ts = (k ≡ length rs) × (ts ≡ cells_of cells rs ++ drop (k * w) es)
-
-  pub written_none : (es : List ℕ) → Written [] 0 es es
-  written_none es = (refl, rw (zero-mul w))
 
   pub written_more : (rs : List R) (k : ℕ) (es ts us : List ℕ) (r : R) → Written rs k es ts → us ≡ take (k * w) ts ++ (cells r ++ drop (k * w + w) ts)
       → Written (rs ++ r ∷ []) (k + 1) es us

@@ -1,5 +1,5 @@
 -- A table by the rows that it holds.
-use Rattle.std.proofs.Common.{◌≡◌, ℕ, ◌+◌, ◌-◌, ◌*◌, ◌≤◌, max, List, ◌++◌, length, take, drop, replicate, sym, ap, ◌∙◌, ⊎_elim, add-mul, zero-mul, arith}
+use Rattle.std.proofs.Common.{◌≡◌, ℕ, ◌+◌, ◌-◌, ◌*◌, ◌≤◌, max, List, ◌++◌, length, take, drop, replicate, sym, refl, ap, ◌∙◌, ⊎_elim, add-mul, zero-mul, arith}
 use Rattle.std.proofs.lemmas.List.{append_assoc, drop_at, drop-drop, length-append, length-drop, length-replicate, length-take-le, replicate-append-replicate, take-append-drop}
 use Rattle.std.proofs.lemmas.Bool.{cases_lt}
 use Rattle.std.proofs.lemmas.Grind.{flat_map-append}
@@ -71,6 +71,12 @@ module _ {R : Type 0} {w : ℕ} {made : List ℕ → R} {cells : R → List ℕ}
       sym (take-append-drop (n * w) ys)
       ∙ ap (λ l. l ++ drop (n * w) ys) (sym (cells_of_rows laws n ys fits) ∙ ap (cells_of cells) rows)
       ∙ ap (λ l. cells_of cells rs ++ l) (behind ∙ ap (λ k. replicate ((most - k) * w) 0 ++ drop (most * w) xs) many)
+
+  -- A table that nobody has changed.
+  pub holding_itself : (n : ℕ) (xs : List ℕ) → n * w ≤ length xs → xs ≡ holding w cells n (rows_in w made n xs) xs
+  holding_itself n xs within =
+      let none : (n - n) * w ≡ 0 = ap (λ k. k * w) (let e : n - n ≡ 0 = omega arith in e) ∙ zero-mul w in
+      holding_is n n (rows_in w made n xs) xs xs within refl (sym (length_rows w made n xs)) (rw none)
 
   -- The table after a filter.
   module _ (n : ℕ) (xs ys : List ℕ) where

@@ -4,7 +4,9 @@ pub mod Written
 pub mod Moved
 pub mod Filtering
 pub mod Overs
+pub mod Within
 pub mod Copying
 pub mod Replaced
 pub mod Holding
+pub mod Becoming
 pub mod Running

@@ -1,9 +1,8 @@
 -- Cells cleared and moved.
 use Rattle.std.proofs.Common.{◌≡◌, ℕ, ◌+◌, ◌-◌, ◌*◌, ◌≤◌, List, ◌++◌, length, take, drop, replicate, sym, ap, ◌∙◌, arith}
-use borrow.Rule.Slice.PartMut.{put_mid}
 use lib.Seq.{paste}
 use Rattle.std.specs.List.{between, copy_within}
-use Rattle.std.proofs.lemmas.List.Edits.{drop-paste, length-between, take-paste}
+use Rattle.std.proofs.lemmas.List.Edits.{drop-paste, take-paste}
 use Rattle.std.proofs.lemmas.List.{append_assoc, drop_at, drop-drop, length-append, length-drop, length-replicate, length-take-le, take_at}
 use Rattle.rows.specs.Cells.{cleared, closed_up}
 use Rattle.rows.specs.Rows.{Laws, rows_in}
@@ -38,11 +37,6 @@ module _ (a e : ℕ) (xs : List ℕ) (order : a ≤ e) (within : e ≤ length xs
   cleared_rows laws m h =
       let inside : a ≤ length xs = omega arith in
       rows_front laws m (take a xs) _ (rw (length-take-le a xs inside) h) ∙ rows_taken laws m a xs h inside
-
-pub cleared_part : (a e : ℕ) (xs : List ℕ) → a ≤ e → e ≤ length xs → (ys : List ℕ) → ys ≡ replicate (length (between a e xs)) 0 → put_mid a (e - a) xs ys ≡ cleared a e xs
-cleared_part a e xs o k ys q =
-    let whole : a + (e - a) ≡ e = omega arith in
-    rw (q, length-between xs a e k, drop-drop (e - a) a xs, whole)
 
 -- Cells that have come nearer, and what the last ones left is cleared.
 pub closed : (a e w : ℕ) (xs : List ℕ) → a + w ≤ e → e ≤ length xs → (ys : List ℕ) → ys ≡ copy_within xs (a + w) e a → cleared (e - w) e ys ≡ closed_up a e w xs

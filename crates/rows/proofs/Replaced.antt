@@ -1,5 +1,5 @@
 -- Rows that give way to others.
-use Rattle.std.proofs.Common.{◌≡◌, ℕ, ◌+◌, ◌-◌, ◌*◌, ◌≤◌, List, [], ◌∷◌, ◌++◌, length, take, drop, replicate, sym, ap, ◌∙◌, add-mul, zero-mul, suc-mul, add-one, add-zero, arith}
+use Rattle.std.proofs.Common.{◌≡◌, ℕ, ◌+◌, ◌-◌, ◌*◌, ◌<◌, ◌≤◌, List, [], ◌∷◌, ◌++◌, length, take, drop, replicate, sym, ap, ◌∙◌, add-mul, zero-mul, suc-mul, add-one, add-zero, arith}
 use Rattle.std.specs.List.{between, insert}
 use Rattle.std.proofs.lemmas.List.Edits.{split_between}
 use Rattle.std.proofs.lemmas.List.{append-nil, drop_at, length-take-le, take-append-le, take-take}
@@ -14,16 +14,16 @@ rows_from w m n h =
     let whole : m + (n - m) ≡ n = omega arith in
     sym (add-mul m (n - m) w) ∙ ap (λ k. k * w) whole
 
-module _ (v w n from to : ℕ) (xs : List ℕ) (e : v ≡ w) where
-  pub shifted_open : from ≤ to → opened (from * v) (n * v) ((to - from) * v) xs ≡ shifted w n from to xs
-  shifted_open h =
+module _ (v w n from to : ℕ) (xs ys : List ℕ) (e : v ≡ w) where
+  pub shifted_open : from < to → ys ≡ opened (from * v) (n * v) ((to - from) * v) xs → ys ≡ shifted w n from to xs
+  shifted_open h q =
       let none : from - to ≡ 0 = omega arith in
-      rw (e, rows_from w from to h, sym (add-mul n (to - from) w), none, zero-mul w)
+      q ∙ rw (e, rows_from w from to (omega arith), sym (add-mul n (to - from) w), none, zero-mul w)
 
-  pub shifted_close : to ≤ from → closed_up (to * v) (n * v) ((from - to) * v) xs ≡ shifted w n from to xs
-  shifted_close h =
+  pub shifted_close : to < from → ys ≡ closed_up (to * v) (n * v) ((from - to) * v) xs → ys ≡ shifted w n from to xs
+  shifted_close h q =
       let none : n + (to - from) ≡ n = omega arith in
-      rw (e, rows_from w to from h, none)
+      q ∙ rw (e, rows_from w to from (omega arith), none)
 
 pub shifted_none : (w n from to : ℕ) (xs : List ℕ) → from ≡ to → from ≤ n → xs ≡ shifted w n from to xs
 shifted_none w n from to xs same h =
@@ -61,12 +61,11 @@ module _ {R : Type 0} {w : ℕ} {made : List ℕ → R} {cells : R → List ℕ}
       ∙ front_written (at * w) ((at + k) * w) xs ys (cells_of cells rs) behind order (omega arith) (moved ∙ shifted_by w n at gone k xs)
       ∙ holding_replaced laws n at gone rs xs place (omega arith)
 
-  pub held_inserted : (r : R) → at ≤ n → n * w + w ≤ length xs → ys ≡ shifted w n at (at + 1) xs → zs ≡ take (at * w) ys ++ (cells r ++ drop (at * w + w) ys)
+  pub held_inserted : (r : R) → at ≤ n → (n + 1) * w ≤ length xs → ys ≡ shifted w n at (at + 1) xs → zs ≡ take (at * w) ys ++ (cells r ++ drop (at * w + w) ys)
       → zs ≡ holding w cells (n + 1) (insert (rows_in w made n xs) at r) xs
   held_inserted r place room moved stored =
       let next : (at + 1) * w ≡ at * w + w = rw (add-one at) (suc-mul at w) in
-      let most : (n + 1) * w ≤ length xs = rw (add-one n, suc-mul n w) room in
       let none : at + 0 ≡ at = add-zero at in
       rw none at (held_replaced 0 (r ∷ []))
-      place most moved
+      place room moved
       (stored ∙ ap (λ l. take (at * w) ys ++ (l ++ drop (at * w + w) ys)) (sym (append-nil (cells r))) ∙ ap (λ m. take (at * w) ys ++ (cells_of cells (r ∷ []) ++ drop m ys)) (sym next))

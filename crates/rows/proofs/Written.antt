@@ -1,7 +1,5 @@
 -- One row of a table, read and written.
 use Rattle.std.proofs.Common.{◌≡◌, ℕ, suc, ◌+◌, ◌-◌, ◌*◌, ◌<◌, ◌≤◌, List, ◌∷◌, ◌++◌, length, take, drop, set, sym, ap, ◌∙◌, subst, arith}
-use native.Mathlib.Nat.{add-sub_cancel_left}
-use borrow.Rule.Slice.PartMut.{put_mid}
 use Rattle.std.proofs.lemmas.List.{drop-drop, length-take-le, set_at, take_rest}
 use Rattle.rows.specs.Rows.{Laws, rows_in}
 use Rattle.rows.proofs.Splits.{length_rows, rows_append, rows_cons, rows_split, rows_taken}
@@ -9,10 +7,6 @@ use Rattle.rows.proofs.Splits.{length_rows, rows_append, rows_cons, rows_split, 
 -- The code holds the width in a variable v of its own.
 pub part_read : (v w i : ℕ) (xs : List ℕ) → v ≡ w → take (length xs - i * v) (drop (i * v) xs) ≡ drop (i * w) xs
 part_read v w i xs e = rw e (take_rest xs (i * w))
-
-pub part_written : (v w i : ℕ) (xs ys zs : List ℕ) → v ≡ w → ys ≡ zs
-    → put_mid (i * v) (i * v + v - i * v) xs ys ≡ take (i * w) xs ++ (zs ++ drop (i * w + w) xs)
-part_written v w i xs ys zs e q = rw (e, q, add-sub_cancel_left (i * w) w) (ap (λ l. take (i * w) xs ++ (zs ++ l)) (drop-drop w (i * w) xs))
 
 module _ {R : Type 0} {w : ℕ} {made : List ℕ → R} {cells : R → List ℕ} (laws : Laws w made cells) where
   -- The rows before row i, row i, and those behind it.

@@ -1,9 +1,6 @@
 -- Numbers that have to stay below a limit.
 use Rattle.std.specs.Prelude.{ℕ, ◌+◌, ◌^◌, Bool, false, cond, List, [], ◌∷◌, Some, None, Option, nat_le}
 
-abbrev pub time_limit : ℕ
-time_limit = 2 ^ 40
-
 abbrev pub count_limit : ℕ
 count_limit = 2 ^ 40
 

@@ -1,19 +1,11 @@
 -- A reading as a row of four numbers.
-use Rattle.std.specs.Prelude.{◌≡◌, ℕ, List, [], ◌∷◌, length, Some, None, Option, slice_index, refl}
+use Rattle.std.specs.Prelude.{◌≡◌, ℕ, List, [], ◌∷◌, length, Some, None, Option, refl}
 use Rattle.std.proofs.Common.{arith}
 use Rattle.visit.specs.declared.Reading.{Reading}
+pub use Rattle.visit.specs.Cells.{reading_width, reading_made, reading_cells}
 use Rattle.rows.specs.Fields.{fields_taken}
-use Rattle.rows.specs.Limits.{time_limit}
+use Rattle.visit.specs.Limits.{time_limit}
 use Rattle.rows.specs.Rows.{Laws, holding, rows_in}
-
-abbrev pub reading_width : ℕ
-reading_width = 4
-
-abbrev pub reading_made : List ℕ → Reading
-reading_made xs = record { card = slice_index xs 0; time = slice_index xs 1; serial = slice_index xs 2; amount = slice_index xs 3 }
-
-abbrev pub reading_cells : Reading → List ℕ
-reading_cells e = e.card ∷ e.time ∷ e.serial ∷ e.amount ∷ []
 
 -- Card, serial and amount have no limit here.
 abbrev pub reading_limits : List (Option ℕ)

@@ -1,5 +1,5 @@
 -- What stands in a table.
-use Rattle.std.specs.Prelude.{ℕ, List}
+use Rattle.std.specs.Prelude.{◌≡◌, ℕ, ◌+◌, ◌*◌, ◌≤◌, List, length}
 use Rattle.std.specs.Iterator.{YieldsFirst}
 use Rattle.std.specs.Iterator.Runs.{YieldsInOrder}
 use Rattle.rows.specs.declared.iter.RowIter.{RowIter}
@@ -27,3 +27,13 @@ rows_of {g = g} t = rows_in g.WIDTH g.made t.len t.cells.now
 -- The cells of a table once it holds the rows rs: behind them 0 up to row `most`, and from there on what stands there now.
 abbrev pub filled : {R : Type 0} {g : Ghosts R} → Table R g → ℕ → List R → List ℕ
 filled {g = g} t most rs = holding g.WIDTH g.cells most rs t.cells.now
+
+-- A table as it becomes: the same memory, these rows, behind them 0 up to row `most`, and from there on what stood there before.
+pub record Becomes {R : Type 0} {g : Ghosts R} (old new : Table R g) (most : ℕ) (rs : List R) : Type 0 where
+  pub same : new.cells.ghost_name ≡ old.cells.ghost_name
+  pub rows : rows_of new ≡ rs
+  pub held : new.cells.now ≡ filled old most rs
+
+-- There is room for so many rows more.
+abbrev pub HasRoom : {R : Type 0} {g : Ghosts R} → Table R g → ℕ → Type 0
+HasRoom {g = g} t more = (t.len + more) * g.WIDTH ≤ length t.cells.now

@@ -3,7 +3,8 @@ use Rattle.std.specs.Prelude.{◌≡◌, ℕ, List, [], ◌∷◌, length, Some,
 use Rattle.std.proofs.Common.{arith}
 use Rattle.visit.specs.declared.Visit.{Visit}
 use Rattle.rows.specs.Fields.{fields_taken}
-use Rattle.rows.specs.Limits.{count_limit, sum_limit, time_limit}
+use Rattle.visit.specs.Limits.{time_limit}
+use Rattle.rows.specs.Limits.{count_limit, sum_limit}
 use Rattle.rows.specs.Rows.{Laws, holding, rows_in}
 
 abbrev pub visit_width : ℕ

@@ -1,6 +1,6 @@
-// Rows written into a slice.
-ghost use Rattle.std.specs.Prelude.{◌≡◌, ℕ, ◌+◌, ◌*◌, ◌<◌, ◌≤◌, ◌++◌, length, take, drop, slice_set};
-ghost use Rattle.rows.specs.Rows.{cells_of, rows_in};
+// Rows written into a slice, which is a part of a table or of the row of changes.
+ghost use Rattle.std.specs.Prelude.{◌≡◌, ◌+◌, ◌*◌, ◌≤◌, ◌++◌, length, take, drop};
+ghost use Rattle.rows.specs.Rows.{cells_of};
 ghost use Rattle.std.specs.Iterator.{IsFinite};
 ghost use Rattle.std.specs.Iterator.Runs.{EachRunFrom, WholeRun};
 
@@ -8,8 +8,7 @@ use crate::row::Row;
 
 pub(crate) fn put<R: Row>(table: &mut [u64], i: usize, row: R)
     requires { i * R.WIDTH + R.WIDTH ≤ length table.old }
-    ensures stored { table.new ≡ take (i * R.WIDTH) table.old ++ (R.cells row ++ drop (i * R.WIDTH + R.WIDTH) table.old) }
-    ensures rows { (n : ℕ) → i < n → rows_in R.WIDTH R.made n table.new ≡ slice_set (rows_in R.WIDTH R.made n table.old) i row }
+    ensures { table.new ≡ take (i * R.WIDTH) table.old ++ (R.cells row ++ drop (i * R.WIDTH + R.WIDTH) table.old) }
 {
     let w = R::WIDTH;
     let start = i * w;
@@ -25,7 +24,7 @@ pub(crate) fn put_all<R: Row>(table: &mut [u64], at: usize, rows: &[R])
     put_rows(&mut table[at * w..], rows.iter().copied());
 }
 
-// The rows that an iterator gives written one behind the other, from the front on: how many.
+// The rows that an iterator gives written one behind the other, from the front on: how many. It is counted by hand, since the count is the answer. Room is asked for, since there is no table yet.
 pub fn put_rows<R: Row, I: Iterator<Item = R>>(target: &mut [u64], rows: I) -> usize
     requires can { I.can_next rows }
     requires finite { IsFinite (I.remaining rows) }

@@ -1,4 +1,4 @@
-// Cells of a slice cleared and moved, of whatever rows they are.
+// Cells of a slice cleared and moved, of whatever rows they are. Over places in the slice: the memory is lent, and cells are moved over others.
 ghost use Rattle.std.specs.Prelude.{◌≡◌, ◌+◌, ◌≤◌, length};
 ghost use Rattle.rows.specs.Cells.{cleared, closed_up, opened};
 

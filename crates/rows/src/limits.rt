@@ -2,7 +2,7 @@
 ghost use Rattle.std.specs.Prelude.{◌≡◌};
 ghost use Rattle.rows.specs.Limits.{first_over};
 
-pub const TIME_LIMIT: u64 = 1 << 40;
+pub use visit::TIME_LIMIT;
 
 pub const COUNT_LIMIT: u64 = 1 << 40;
 

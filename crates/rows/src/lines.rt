@@ -7,6 +7,7 @@ use visit::Line;
 
 pub const LINE_WIDTH: usize = 4;
 
+// The one place where the cells of a line are listed.
 impl Row for Line {
     const WIDTH: usize = LINE_WIDTH;
 

@@ -1,11 +1,11 @@
 // A reading as a row: card, time, serial, amount.
-ghost use Rattle.rows.specs.Readings.{reading_cells, reading_laws, reading_limited, reading_limits, reading_made, reading_width};
+ghost use Rattle.rows.specs.Readings.{reading_laws, reading_limited, reading_limits};
+ghost use Rattle.visit.specs.Cells.{reading_cells, reading_made, reading_width};
 
 use crate::limits::TIME_LIMIT;
 use crate::row::Row;
 use visit::Reading;
-
-pub const READING_WIDTH: usize = 4;
+pub use visit::cells::READING_WIDTH;
 
 impl Row for Reading {
     const WIDTH: usize = READING_WIDTH;
@@ -23,16 +23,11 @@ impl Row for Reading {
     ghost limited = { reading_limited };
 
     fn read(source: &[u64]) -> Reading {
-        Reading {
-            card: source[0],
-            time: source[1],
-            serial: source[2],
-            amount: source[3],
-        }
+        Reading::from([source[0], source[1], source[2], source[3]])
     }
 
     fn write(self, target: &mut [u64]) {
-        target.copy_from_slice(&[self.card, self.time, self.serial, self.amount]);
+        target.copy_from_slice(&<[u64; READING_WIDTH]>::from(self));
     }
 
     fn limits() -> &'static [Option<u64>] {

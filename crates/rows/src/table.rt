@@ -8,9 +8,9 @@ use crate::limits::over;
 use crate::row::Row;
 use std::alloc::AllocError;
 use std::marker::PhantomData;
-use visit::{Ordered, Terms};
+use visit::{Ordered, Terms, place};
 
-// Read only.
+// Read only. Two types, as `&` and `&mut` are two: this one is copied, and a table changes.
 #[derive(Copy)]
 pub struct Rows<'a, R: Row> {
     pub cells: &'a [u64],
@@ -27,6 +27,7 @@ pub struct Table<'a, R: Row> {
     ghost fits: { len * R.WIDTH ≤ length cells.now },
 }
 
+// By hand: a derive is refused over a ghost field.
 impl<R: Row> Clone for Rows<'_, R> {
     ghost use Rattle.std.specs.Prelude.{⊤};
 
@@ -44,6 +45,7 @@ impl<'a, R: Row> Rows<'a, R> {
     ghost use Rattle.rows.specs.Tables.{rows_seen};
     ghost use Rattle.std.specs.List.{repeat, slice_get};
 
+    // Here the fact that the rows fit goes into the type.
     pub fn new(cells: &'a [u64], len: usize) -> Rows<'a, R>
         requires { len * R.WIDTH ≤ length cells.now }
         ensures cells { result.cells.now ≡ cells.now }
@@ -120,15 +122,16 @@ impl<R: Row + Ordered> Rows<'_, R> {
         ensures within { result ≤ self.now.len }
         ensures before { result ≡ prefix_len (λ x. R.precedes terms x row) (rows_seen self.now) }
     {
-        self.iter().take_while(|x| x.before(row, terms)).count()
+        place(self.iter(), row, terms)
     }
 }
 
 impl<'a, R: Row> Table<'a, R> {
-    ghost use Rattle.rows.specs.Tables.{filled, rows_of, rows_seen};
+    ghost use Rattle.rows.specs.Tables.{Becomes, HasRoom, rows_of, rows_seen};
     ghost use Rattle.rows.specs.Tests.{Answers};
     ghost use Rattle.std.specs.List.{insert, remove};
 
+    // Here the fact that the rows fit goes into the type.
     pub fn new(cells: &'a mut [u64], len: usize) -> Table<'a, R>
         requires { len * R.WIDTH ≤ length cells.old }
         ensures same { result.cells.ghost_name ≡ cells.entry.ghost_name }
@@ -158,10 +161,7 @@ impl<'a, R: Row> Table<'a, R> {
 
     pub fn put(&mut self, i: usize, row: R)
         requires { i < self.old.len }
-        ensures same { self.new.cells.ghost_name ≡ self.old.cells.ghost_name }
-        ensures len { self.new.len ≡ self.old.len }
-        ensures stored { self.new.cells.now ≡ take (i * R.WIDTH) self.old.cells.now ++ (R.cells row ++ drop (i * R.WIDTH + R.WIDTH) self.old.cells.now) }
-        ensures rows { rows_of self.new ≡ slice_set (rows_of self.old) i row }
+        ensures after { Becomes self.old self.new self.old.len (slice_set (rows_of self.old) i row) }
     {
         put(self.cells, i, row);
     }
@@ -169,11 +169,8 @@ impl<'a, R: Row> Table<'a, R> {
     // The `gone` rows from `at` on give way to other rows, more or fewer. Where rows stood and none stands now, the cells are 0.
     pub fn replace(&mut self, at: usize, gone: usize, rows: &[R])
         requires place { at + gone ≤ self.old.len }
-        requires room { (self.old.len + (length rows.now - gone)) * R.WIDTH ≤ length self.old.cells.now }
-        ensures same { self.new.cells.ghost_name ≡ self.old.cells.ghost_name }
-        ensures len { self.new.len ≡ self.old.len - gone + length rows.now }
-        ensures rows { rows_of self.new ≡ take at (rows_of self.old) ++ (rows.now ++ drop (at + gone) (rows_of self.old)) }
-        ensures held { self.new.cells.now ≡ filled self.old (self.old.len + (length rows.now - gone)) (take at (rows_of self.old) ++ (rows.now ++ drop (at + gone) (rows_of self.old))) }
+        requires room { HasRoom self.old (length rows.now - gone) }
+        ensures after { Becomes self.old self.new (self.old.len + (length rows.now - gone)) (take at (rows_of self.old) ++ (rows.now ++ drop (at + gone) (rows_of self.old))) }
     {
         shift::<R>(self.cells, self.len, at + gone, at + rows.len());
         put_all(self.cells, at, rows);
@@ -182,11 +179,8 @@ impl<'a, R: Row> Table<'a, R> {
 
     pub fn insert(&mut self, at: usize, row: R)
         requires place { at ≤ self.old.len }
-        requires room { self.old.len * R.WIDTH + R.WIDTH ≤ length self.old.cells.now }
-        ensures same { self.new.cells.ghost_name ≡ self.old.cells.ghost_name }
-        ensures len { self.new.len ≡ self.old.len + 1 }
-        ensures rows { rows_of self.new ≡ insert (rows_of self.old) at row }
-        ensures held { self.new.cells.now ≡ filled self.old (self.old.len + 1) (insert (rows_of self.old) at row) }
+        requires room { HasRoom self.old 1 }
+        ensures after { Becomes self.old self.new (self.old.len + 1) (insert (rows_of self.old) at row) }
     {
         shift::<R>(self.cells, self.len, at, at + 1);
         self.len += 1;
@@ -195,10 +189,7 @@ impl<'a, R: Row> Table<'a, R> {
 
     pub fn remove(&mut self, at: usize)
         requires { at < self.old.len }
-        ensures same { self.new.cells.ghost_name ≡ self.old.cells.ghost_name }
-        ensures len { self.new.len ≡ self.old.len - 1 }
-        ensures rows { rows_of self.new ≡ remove (rows_of self.old) at }
-        ensures held { self.new.cells.now ≡ filled self.old self.old.len (remove (rows_of self.old) at) }
+        ensures after { Becomes self.old self.new self.old.len (remove (rows_of self.old) at) }
     {
         self.replace(at, 1, &[]);
     }
@@ -206,10 +197,7 @@ impl<'a, R: Row> Table<'a, R> {
     // Only the first `len` rows stay.
     pub fn truncate(&mut self, len: usize)
         requires { len ≤ self.old.len }
-        ensures same { self.new.cells.ghost_name ≡ self.old.cells.ghost_name }
-        ensures len { self.new.len ≡ len }
-        ensures rows { rows_of self.new ≡ take len (rows_of self.old) }
-        ensures held { self.new.cells.now ≡ filled self.old self.old.len (take len (rows_of self.old)) }
+        ensures after { Becomes self.old self.new self.old.len (take len (rows_of self.old)) }
     {
         self.replace(len, self.len - len, &[]);
     }
@@ -219,8 +207,7 @@ impl<'a, R: Row> Table<'a, R> {
         requires { F.IsAlwaysCallable test }
         ensures same { self.new.cells.ghost_name ≡ self.old.cells.ghost_name }
         ensures few { self.new.len ≤ self.old.len }
-        ensures rows { (p : R → Bool) → Answers (F.post test) p → rows_of self.new ≡ filter p (rows_of self.old) }
-        ensures held { (p : R → Bool) → Answers (F.post test) p → self.new.cells.now ≡ filled self.old self.old.len (filter p (rows_of self.old)) }
+        ensures after { (p : R → Bool) → Answers (F.post test) p → Becomes self.old self.new self.old.len (filter p (rows_of self.old)) }
     {
         let mut to = 0;
         // By place, since the rows that are read are written too.
@@ -237,7 +224,8 @@ impl<'a, R: Row> Table<'a, R> {
     }
 }
 
-// The rows from `from` up to n, moved so that they begin at row `to`.
+// The rows from `from` up to n, moved so that they begin at row `to`. Over the cells: a method would have to say besides that the count and the memory stay.
+#[tactic(auto, using(crate::proofs::Replaced::shifted_open, crate::proofs::Replaced::shifted_close, crate::proofs::Replaced::shifted_none))]
 fn shift<R: Row>(table: &mut [u64], n: usize, from: usize, to: usize)
     requires place { from ≤ n }
     requires room { (n + (to - from)) * R.WIDTH ≤ length table.old }

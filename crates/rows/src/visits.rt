@@ -7,6 +7,7 @@ use visit::Visit;
 
 pub const VISIT_WIDTH: usize = 5;
 
+// The one place where the cells of a visit are listed.
 impl Row for Visit {
     const WIDTH: usize = VISIT_WIDTH;
 

@@ -1,9 +1,10 @@
-use Rattle.std.proofs.Common.{◌≡◌, ◌+◌, Bool, ◌∷◌, sym, ap, ◌∙◌}
+use Rattle.std.proofs.Common.{◌≡◌, Bool, ◌∷◌, refl, sym, ap, ◌∙◌}
 use Rattle.std.specs.List.{insert, prefix_len}
 use Rattle.visit.specs.declared.Reading.{Reading}
 use Rattle.visit.specs.Readings.{reading_before}
 use Rattle.model.specs.Sessions.{insert_reading}
-use Rattle.rows.specs.Tables.{filled, rows_of, rows_seen}
+use Rattle.rows.specs.Tables.{rows_of, rows_seen}
+use Rattle.rows.proofs.Becoming.{becomes_as}
 use Rattle.model.proofs.Places.{at_place_is}
 use Rattle.seen.proofs.insert.Goals as goal
 
@@ -15,9 +16,4 @@ returns c =
     let seen : rows_seen c.rows.result ≡ rs = cc in
     let placed : insert rs c.place-at.result e ≡ insert_reading c.args.terms e rs =
     ap (λ k. insert rs k e) (c.place-at.ensures.before ∙ ap (prefix_len before) seen) ∙ sym (at_place_is before (λ es. e ∷ es) rs) in
-    record {
-      same = c.insert.ensures.same;
-      len = c.insert.ensures.len;
-      readings = c.insert.ensures.rows ∙ placed;
-      held = c.insert.ensures.held ∙ ap (filled c.args.table.now (c.args.table.now.len + 1)) placed;
-    }
+    record { after = becomes_as c.insert.ensures.after refl placed }

@@ -1,10 +1,10 @@
-use Rattle.std.proofs.Common.{◌≡◌, ◌+◌, max, set, sym, ap, ◌∙◌, arith}
+use Rattle.std.proofs.Common.{◌≡◌, ◌≤◌, set, sym, ap, ◌∙◌, arith}
 use Rattle.std.specs.List.{insert, slice_get}
 use Rattle.std.proofs.lemmas.Option.{get_or_from_slice_get, slice_get_within}
 use Rattle.model.specs.Ledger.{add_line}
-use Rattle.rows.specs.Tables.{filled, rows_of, rows_seen}
+use Rattle.rows.specs.Tables.{rows_of, rows_seen}
+use Rattle.rows.proofs.Becoming.{becomes_as, len_inserted, len_put, length_of}
 use Rattle.ledger.proofs.Entries.{add_between, add_last, add_place, add_to}
-use Rattle.ledger.proofs.Held.{filled_put, length_of}
 use Rattle.ledger.proofs.Places.{none_there}
 use Rattle.ledger.proofs.adding.add.Goals as goal
 use Rattle.ledger.proofs.adding.add.Goals.{After-get, in_default-via-in-Some+else-same_key, in_default-via-in_default}
@@ -32,20 +32,14 @@ returns-in-Some c =
     let added : set ls at c.plus.result ≡ add_line c.args.terms c.args.line ls =
     ap (set ls at) c.plus.ensures
     ∙ sym (add_to c.args.terms c.args.line ls at found inside (sym (get_or_from_slice_get ls at found found read)) (placed (goal.at.returns-in-Some c).After-get) (sym c.if-same_key.ensures)) in
-    let top : t.len ≡ max t.len c.put.new.self.len = omega (arith, c.put.ensures.len) in
-    record {
-      same = c.put.ensures.same;
-      lines = c.put.ensures.rows ∙ added;
-      held = filled_put t c.put.new.self at c.plus.result (omega (arith, length_of t)) c.put.ensures.len c.put.ensures.stored c.put.ensures.rows
-          ∙ ap (filled t t.len) added ∙ ap (λ k. filled t k (add_line c.args.terms c.args.line ls)) top;
-    }
+    let len = len_put at c.plus.result c.put.ensures.after in
+    record { after = becomes_as c.put.ensures.after (omega (arith, len)) added }
 
 pub returns-in_default : goal.returns-in_default
 returns-in_default c =
     let t = c.args.table.now in
     let ls = rows_of t in
     let at = c.place-at.result in
-    let long = length_of t in
     let read = looked_at (goal.at.returns-in_default c).After-get in
     let place = placed (goal.at.returns-in_default c).After-get in
     let added : insert ls at c.args.line ≡ add_line c.args.terms c.args.line ls =
@@ -55,9 +49,6 @@ returns-in_default c =
           add_between c.args.terms c.args.line ls at w.in-Some.found (slice_get_within ls at w.in-Some.found here) (sym (get_or_from_slice_get ls at w.in-Some.found w.in-Some.found here)) place (sym w.if-same_key.ensures)
       | in_default-via-in_default w ↦ add_last c.args.terms c.args.line ls at place (none_there ls at (read ∙ w.in_default.is))
     ]) in
-    let top : t.len + 1 ≡ max t.len c.insert.new.self.len = omega (arith, c.insert.ensures.len) in
-    record {
-      same = c.insert.ensures.same;
-      lines = c.insert.ensures.rows ∙ added;
-      held = c.insert.ensures.held ∙ ap (filled t (t.len + 1)) added ∙ ap (λ k. filled t k (add_line c.args.terms c.args.line ls)) top;
-    }
+    let within : at ≤ t.len = omega (arith, c.place-at.ensures.within, c.rows-rows.ensures.len) in
+    let len = len_inserted at c.args.line within c.insert.ensures.after in
+    record { after = becomes_as c.insert.ensures.after (omega (arith, len)) added }

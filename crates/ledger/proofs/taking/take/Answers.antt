@@ -1,11 +1,11 @@
-use Rattle.std.proofs.Common.{◌≡◌, Bool, cond, ltb, Some, None, length, set, rules, sym, refl, ap, ◌∙◌, arith}
+use Rattle.std.proofs.Common.{◌≡◌, Bool, cond, ltb, Some, None, length, set, rules, sym, refl, ap, ◌∙◌}
 use Rattle.std.proofs.lemmas.Iterator.Search.{position_from_yields_List}
 use Rattle.visit.specs.declared.Line.{Line}
 use Rattle.visit.specs.Lines.{same_key}
-use Rattle.rows.specs.Tables.{filled, rows_of, rows_seen}
+use Rattle.rows.specs.Tables.{rows_of, rows_seen}
+use Rattle.rows.proofs.Becoming.{becomes_as, becomes_itself}
 use Rattle.rows.proofs.Running.{rows_list}
 use Rattle.ledger.proofs.Entries.{take_gone, take_less, take_none, take_place}
-use Rattle.ledger.proofs.Held.{filled_put, filled_same, length_of}
 use Rattle.ledger.proofs.Places.{place_found, place_missed}
 use Rattle.ledger.proofs.taking.take.Goals as goal
 use Rattle.ledger.proofs.taking.take.Goals.{After-position}
@@ -26,29 +26,22 @@ returns-in_default c =
     let ls = rows_of t in
     let k = take_place c.args.terms c.args.line ls in
     let all = take_none c.args.terms c.args.line ls k refl (place_missed k (length ls) c.position.result (looked_for (goal.at.returns-in_default c).After-position) c.in_default.is) in
-    record { same = refl; lines = sym all; held = filled_same t ∙ ap (filled t t.len) (sym all) }
+    record { after = becomes_as (becomes_itself t) refl (sym all) }
 
 pub returns-then-found-line : goal.returns-then-found-line
 returns-then-found-line c =
-    let t = c.args.table.now in
-    let ls = rows_of t in
+    let ls = rows_of c.args.table.now in
     let at = c.in-Some.at in
     let found = c.row-found.result in
     let here = place_found (take_place c.args.terms c.args.line ls) (length ls) c.position.result (looked_for (goal.at.returns-then-found-line c).After-position) at c.in-Some.is in
     let gone = sym (take_gone c.args.terms c.args.line ls at found here.1 (c.row-found.ensures found) here.0 c.if-found-line.true) in
-    record { same = c.remove.ensures.same; lines = c.remove.ensures.rows ∙ gone; held = c.remove.ensures.held ∙ ap (filled t t.len) gone }
+    record { after = becomes_as c.remove.ensures.after refl gone }
 
 pub returns-else-found-line : goal.returns-else-found-line
 returns-else-found-line c =
-    let t = c.args.table.now in
-    let ls = rows_of t in
+    let ls = rows_of c.args.table.now in
     let at = c.in-Some.at in
     let found = c.row-found.result in
     let here = place_found (take_place c.args.terms c.args.line ls) (length ls) c.position.result (looked_for (goal.at.returns-else-found-line c).After-position) at c.in-Some.is in
     let less = ap (set ls at) c.minus.ensures ∙ sym (take_less c.args.terms c.args.line ls at found here.1 (c.row-found.ensures found) here.0 c.if-found-line.false) in
-    record {
-      same = c.put.ensures.same;
-      lines = c.put.ensures.rows ∙ less;
-      held = filled_put t c.put.new.self at c.minus.result (omega (arith, here.1, length_of t)) c.put.ensures.len c.put.ensures.stored c.put.ensures.rows
-          ∙ ap (filled t t.len) less;
-    }
+    record { after = becomes_as c.put.ensures.after refl less }

@@ -1,15 +1,14 @@
 use Rattle.std.proofs.Common.{◌≡◌, ◌-◌, ◌≤◌}
-use Rattle.rows.specs.Tables.{filled, rows_of}
+use Rattle.rows.specs.Tables.{Becomes, rows_of}
 use Rattle.live.proofs.Aside.{Walked}
 use Rattle.live.proofs.merging.set_aside.Given as goal
 
 abbrev pub invariant-loop-at : goal.invariant-loop-at
 invariant-loop-at l =
     record {
-      same : l.table.cells.ghost_name ≡ l.initial.table.cells.ghost_name;
       len : l.table.len ≡ l.initial.table.len;
       within : l.others ≤ l.table.len;
-      held : l.table.cells.now ≡ filled l.initial.table l.initial.table.len (rows_of l.table);
+      after : Becomes l.initial.table l.table l.initial.table.len (rows_of l.table);
       walked : Walked l.terms l.initial.grown (rows_of l.initial.table) (rows_of l.table) l.grown l.others l.at;
     }
 

@@ -1,7 +1,7 @@
 use Rattle.std.proofs.Common.{◌≡◌, ◌+◌, ◌-◌, ◌++◌, length, take, drop, refl, arith}
 use Rattle.std.proofs.lemmas.List.{length-append, length-drop, length-take-le}
 use Rattle.rows.specs.Rows.{rows_in}
-use Rattle.rows.proofs.Holding.{held_rows}
+use Rattle.rows.proofs.Becoming.{becomes_held}
 use Rattle.rows.proofs.Products.{rows_many, rows_rise}
 use Rattle.rows.proofs.Replaced.{held_replaced}
 use Rattle.rows.proofs.Splits.{length_rows}
@@ -32,9 +32,4 @@ returns g c =
     let front : length (take at old) ≡ at = length-take-le at old (rw (length_rows r.WIDTH r.made n xs) (omega arith)) in
     let many : n - gone + k ≡ length (take at old ++ (rs ++ drop (at + gone) old)) =
     simp (length-append, length-drop) (omega (arith, front, length_rows r.WIDTH r.made n xs)) in
-    record {
-      same = refl;
-      len = refl;
-      rows = held_rows r.laws (n - gone + k) (n + (k - gone)) _ xs c.put_all.new.table held many;
-      held = held;
-    }
+    record { after = becomes_held refl many held }

@@ -1,0 +1,47 @@
+-- A visit set aside from those that it takes in, and then put in its place: a merging.
+use Rattle.std.proofs.Common.{◌≡◌, ◌+◌, ◌≤◌, max, List, ◌++◌, length, take, refl, ap, sym, arith}
+use Rattle.std.specs.List.{insert}
+use Rattle.std.proofs.lemmas.List.{length-append, take_at}
+use Rattle.visit.specs.declared.Terms.{Terms}
+use Rattle.visit.specs.declared.Visit.{Visit}
+use Rattle.model.specs.Store.{merge_in}
+use Rattle.rows.specs.declared.row.Row.{Ghosts}
+use Rattle.rows.specs.declared.table.Table.{Table}
+use Rattle.rows.specs.Tables.{Becomes, HasRoom, rows_of}
+use Rattle.rows.proofs.Becoming.{becomes_as, becomes_len, becomes_long, becomes_then, length_of}
+use Rattle.live.specs.declared.merging.Placed.{Placed}
+use Rattle.live.specs.Walk.{left_over, placed_of, taken_in}
+use Rattle.live.proofs.Parts.{length_merged, length_parts, merge_parts, place_within}
+
+module _ {g : Ghosts Visit} {t mid : Table Visit g} (terms : Terms) (v : Visit) {placed : Placed} (is : placed ≡ placed_of terms v (rows_of t)) (aside : Becomes t mid t.len (left_over terms v (rows_of t) ++ taken_in terms v (rows_of t))) where
+  abbrev left : List Visit
+  left = left_over terms v (rows_of t)
+
+  abbrev taken : List Visit
+  taken = taken_in terms v (rows_of t)
+
+  others_are : placed.others ≡ length left
+  others_are = ap (λ (p : Placed). p.others) is
+
+  pub same_len : mid.len ≡ t.len
+  same_len = omega (arith, becomes_len aside, length-append left taken, length_parts terms v (rows_of t), length_of t)
+
+  pub place_fits : placed.at ≤ placed.others
+  place_fits = omega (arith, ap (λ (p : Placed). p.at) is, others_are, place_within terms v (rows_of t))
+
+  pub others_few : placed.others ≤ mid.len
+  others_few = omega (arith, others_are, length_parts terms v (rows_of t), length_of t, same_len)
+
+  pub room_stays : HasRoom t 1 → HasRoom mid 1
+  room_stays h =
+      let same = same_len in
+      let long = becomes_long aside (omega (arith, same)) t.fits in
+      rw (same, long) h
+
+  pub merged : (u : Table Visit g) → Becomes mid u (max mid.len (placed.others + 1)) (insert (take placed.others (rows_of mid)) placed.at placed.visit) → Becomes t u (max t.len u.len) (merge_in terms v (rows_of t))
+  merged u put =
+      let whole : insert (take placed.others (rows_of mid)) placed.at placed.visit ≡ merge_in terms v (rows_of t) =
+      rw (is, aside.rows, take_at left taken (length left) refl) (sym (merge_parts terms v (rows_of t))) in
+      let put' = becomes_as put refl whole in
+      let many : u.len ≡ placed.others + 1 = omega (arith, becomes_len put', length_merged terms v (rows_of t), others_are) in
+      becomes_then aside put' (omega (arith, same_len)) (omega arith) (omega (arith, many)) (omega (arith, many, same_len))
