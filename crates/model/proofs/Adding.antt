@@ -12,13 +12,13 @@ use Rattle.command.specs.declared.Refusal.{Refusal}
 use Rattle.model.specs.AddsUp.{AllSound, ChangesAddUp, Sound, applied_all, applied_to, put_all_in, put_in}
 use Rattle.model.specs.Reference.{Reference, after, closed_of, empty, outcome_by, outcomes, plan, state_by, step}
 use Rattle.model.specs.Sessions.{changes, difference, some, visits}
-use Rattle.model.proofs.Common.{same_itself, same_visits, some_kept, split}
+use Rattle.model.proofs.Common.{RisingBy, same_itself, same_visits, some_kept}
 use Rattle.model.proofs.Order.{Apart, Follows, SortedReadings, step_sorted, visits_apart}
-use Rattle.model.proofs.Same.{RisingBy, rising_kept, same_members, some_decides}
+use Rattle.model.proofs.Same.{rising_kept, same_members, some_decides}
 
 -- Visits that are the same are one, so looking for a visit decides whether a list has it.
 pub same_decides : (t : Terms) (v w : Visit) → Decides (same_visit t v w) (w ≡ v)
-same_decides t v w = (λ h. sym (same_visits t v w h), λ e. subst (λ (u : Visit). same_visit t v u ≡ true) (sym e) (same_itself t v))
+same_decides t v w = grind (arith, nat_tests, same_itself t v, same_visits)
 
 -- Whether a visit is in a list.
 abbrev pub is_in : Terms → Visit → List Visit → Bool
@@ -56,22 +56,13 @@ put_all_behind t b (n ∷ ns) vs a = simp a.0 (put_all_behind t b ns (put_in t n
 
 put_in_front : (t : Terms) (b : Visit) (vs : List Visit) → AllByRecursion (λ v. visit_before t b v ≡ true) vs → put_in t b vs ≡ b ∷ vs
 put_in_front t b [] a = refl
-put_in_front t b (v ∷ vs) a =
-    let h : visit_before t v b ≡ false = split (visit_before t v b) (λ o. absurd (visit_strict t b v a.0 o)) (λ o. o) in simp h
+put_in_front t b (v ∷ vs) a = grind (arith, nat_tests, visit_strict)
 
 -- What a filter passes over, put in again, gives the list.
 put_back : (t : Terms) (p q : Visit → Bool) → ((v : Visit) → q v ≡ not (p v)) → (vs : List Visit) → RisingBy (visit_before t) vs
     → put_all_in t (filter q vs) (filter p vs) ≡ vs
 put_back t p q other [] r = refl
-put_back t p q other (v ∷ vs) r =
-    let ih = put_back t p q other vs r.1 in
-    let behind = put_all_behind t v (filter q vs) (filter p vs) (all_kept_by q (λ w. visit_before t v w ≡ true) vs r.0) in
-    split (p v)
-    (λ o. let n : q v ≡ false = other v ∙ ap not o in simp (o, n, behind, ih))
-    (λ o.
-    let n : q v ≡ true = other v ∙ ap not o in
-    let front = put_in_front t v (filter p vs) (all_kept_by p (λ w. visit_before t v w ≡ true) vs r.0) in
-    simp (o, n, front, behind, ih))
+put_back t p q other (v ∷ vs) r = grind (arith, nat_tests, put_back t p q other vs r.1, put_all_behind t v (filter q vs) (filter p vs) (all_kept_by q (λ w. visit_before t v w ≡ true) vs r.0), all_kept_by q (λ w. visit_before t v w ≡ true) vs r.0, put_in_front t v (filter p vs) (all_kept_by p (λ w. visit_before t v w ≡ true) vs r.0), all_kept_by p (λ w. visit_before t v w ≡ true) vs r.0)
 
 -- What stays of one list is what is in both, and so a part of the other.
 both_in : (a b : Bool) → (not (not b && a) && a) ≡ (a && b)
@@ -91,9 +82,7 @@ stays t vs ws r s =
 
 pub changes_applied : (t : Terms) (vs ws : List Visit) → RisingBy (visit_before t) vs → RisingBy (visit_before t) ws
     → applied_to t vs (changes t vs ws) ≡ ws
-changes_applied t vs ws r s =
-    ap (λ (us : List Visit). put_all_in t (difference t ws vs) us) (stays t vs ws r s)
-    ∙ put_back t (λ w. is_in t w vs) (λ w. not (is_in t w vs)) (λ w. refl) ws s
+changes_applied t vs ws r s = grind (arith, nat_tests, stays t vs ws r s, put_back t (λ w. is_in t w vs) (λ w. not (is_in t w vs)) (λ w. refl) ws s)
 
 -- What is retracted was there, what is added was not.
 pub changes_sound : (t : Terms) (vs ws : List Visit) → Sound vs (changes t vs ws)
@@ -105,29 +94,29 @@ changes_sound t vs ws = (
 )
 
 -- One command, by its plan, and all of them.
-applied_by : (t : Terms) (k : Reference) (r : Result Reference Refusal) → SortedReadings t k.readings → SortedReadings t (state_by k r).readings
+pub applied_outcome : (t : Terms) (k : Reference) (r : Result Reference Refusal) → SortedReadings t k.readings → SortedReadings t (state_by k r).readings
     → applied_to t (closed_of t k) (outcome_by t k r) ≡ closed_of t (state_by k r)
-applied_by t k (Ok next) s n = changes_applied t (closed_of t k) (closed_of t next) (closed_rising t k s) (closed_rising t next n)
-applied_by t k (Err e) s n = refl
+applied_outcome t k (Ok next) s n = changes_applied t (closed_of t k) (closed_of t next) (closed_rising t k s) (closed_rising t next n)
+applied_outcome t k (Err e) s n = refl
 
-sound_by : (t : Terms) (k : Reference) (r : Result Reference Refusal) → Sound (closed_of t k) (outcome_by t k r)
-sound_by t k (Ok next) = changes_sound t (closed_of t k) (closed_of t next)
-sound_by t k (Err e) = tt
+pub sound_outcome : (t : Terms) (k : Reference) (r : Result Reference Refusal) → Sound (closed_of t k) (outcome_by t k r)
+sound_outcome t k (Ok next) = changes_sound t (closed_of t k) (closed_of t next)
+sound_outcome t k (Err e) = tt
 
 pub applied_outcomes : (t : Terms) (k : Reference) (cs : List Command) → SortedReadings t k.readings
     → applied_all t (closed_of t k) (outcomes t k cs) ≡ closed_of t (after t k cs)
 applied_outcomes t k [] s = refl
 applied_outcomes t k (c ∷ cs) s =
     let n = step_sorted t k c s in
-    ap (λ (vs : List Visit). applied_all t vs (outcomes t (step t k c) cs)) (applied_by t k (plan t k c) s n)
+    ap (λ (vs : List Visit). applied_all t vs (outcomes t (step t k c) cs)) (applied_outcome t k (plan t k c) s n)
     ∙ applied_outcomes t (step t k c) cs n
 
 pub sound_outcomes : (t : Terms) (k : Reference) (cs : List Command) → SortedReadings t k.readings → AllSound t (closed_of t k) (outcomes t k cs)
 sound_outcomes t k [] s = tt
 sound_outcomes t k (c ∷ cs) s =
     let n = step_sorted t k c s in (
-      sound_by t k (plan t k c),
-      subst (λ (vs : List Visit). AllSound t vs (outcomes t (step t k c) cs)) (sym (applied_by t k (plan t k c) s n)) (sound_outcomes t (step t k c) cs n),
+      sound_outcome t k (plan t k c),
+      subst (λ (vs : List Visit). AllSound t vs (outcomes t (step t k c) cs)) (sym (applied_outcome t k (plan t k c) s n)) (sound_outcomes t (step t k c) cs n),
     )
 
 pub changes_add_up : ChangesAddUp

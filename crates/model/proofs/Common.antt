@@ -2,7 +2,7 @@
 use mathlib.Core.Path.{◌≡◌, refl, sym, ap, ◌∙◌, subst}
 use mathlib.Core.Bool.{Bool, true, false, not, ◌&&◌, ◌||◌, and_comm}
 use mathlib.Core.List.{List, [], ◌∷◌, ◌++◌}
-use Prim.Native.Nat.{ℕ, ◌<◌, ◌≤◌}
+use Prim.Native.Nat.{◌<◌, ◌≤◌}
 use native.Mathlib.Omega.{arith}
 use lib.ListN.{length}
 use Rattle.std.specs.List.{filter, AllByRecursion}
@@ -10,6 +10,7 @@ use Rattle.std.proofs.ByRecursion.{All-weaker}
 use Rattle.std.proofs.lemmas.List.Filters.{length-filter_both}
 use Rattle.std.proofs.lemmas.Bool.{and_right, both_ways, or_right}
 use Rattle.std.proofs.lemmas.Bool.Decides.{nat_tests}
+pub use Rattle.std.proofs.lemmas.List.Elements.{filter_agree as kept_alike}
 use Rattle.visit.specs.declared.Terms.{Terms}
 use Rattle.visit.specs.declared.Visit.{Visit}
 use Rattle.visit.specs.Visits.{same_visit}
@@ -19,6 +20,11 @@ use Rattle.model.specs.Sessions.{some}
 abbrev pub split : {P : Type 0} (b : Bool) → (b ≡ true → P) → (b ≡ false → P) → P
 split true f g = f refl
 split false f g = g refl
+
+-- Each element comes before all that follow it.
+abbrev pub RisingBy : {X : Type 0} → (X → X → Bool) → List X → Type 0
+RisingBy before [] = Unit {0}
+RisingBy before (x ∷ xs) = AllByRecursion (λ y. before x y ≡ true) xs × RisingBy before xs
 
 -- Two things that hold of all elements.
 pub all_both : {X : Type 0} (P Q : X → Type 0) (xs : List X) → AllByRecursion P xs → AllByRecursion Q xs → AllByRecursion (λ x. P x × Q x) xs
@@ -30,10 +36,6 @@ pub kept_agree : {X : Type 0} (p q : X → Bool) (xs : List X) → AllByRecursio
 kept_agree p q [] a = refl
 kept_agree p q (x ∷ xs) a = simp (a.0, kept_agree p q xs a.1)
 
-pub kept_alike : {X : Type 0} (p q : X → Bool) → ((x : X) → p x ≡ q x) → (xs : List X) → filter p xs ≡ filter q xs
-kept_alike p q h [] = refl
-kept_alike p q h (x ∷ xs) = simp (h x, kept_alike p q h xs)
-
 pub kept_none : {X : Type 0} (p : X → Bool) (xs : List X) → AllByRecursion (λ x. p x ≡ false) xs → filter p xs ≡ []
 kept_none p [] a = refl
 kept_none p (x ∷ xs) a = simp (a.0, kept_none p xs a.1)
@@ -44,7 +46,7 @@ kept_shorter p xs = omega (arith, length-filter_both p (λ x. not (p x)) (λ _. 
 -- One filter after another is one filter, so their order does not matter.
 pub kept_twice : {X : Type 0} (p q : X → Bool) (xs : List X) → filter p (filter q xs) ≡ filter (λ x. q x && p x) xs
 kept_twice p q [] = refl
-kept_twice p q (x ∷ xs) = let ih = kept_twice p q xs in split (q x) (λ o. simp (o, ih)) (λ o. simp (o, ih))
+kept_twice p q (x ∷ xs) = grind (arith, kept_twice p q xs)
 
 pub kept_commute : {X : Type 0} (p q : X → Bool) (xs : List X) → filter p (filter q xs) ≡ filter q (filter p xs)
 kept_commute p q xs = kept_twice p q xs ∙ kept_alike (λ x. q x && p x) (λ x. p x && q x) (λ x. and_comm (q x) (p x)) xs ∙ sym (kept_twice q p xs)
@@ -52,23 +54,20 @@ kept_commute p q xs = kept_twice p q xs ∙ kept_alike (λ x. q x && p x) (λ x.
 -- Looking for an element in lists that are put together.
 pub some_append : {X : Type 0} (p : X → Bool) (xs ys : List X) → some p (xs ++ ys) ≡ (some p xs || some p ys)
 some_append p [] ys = refl
-some_append p (x ∷ xs) ys = split (p x) (λ q. simp q) (λ q. simp (q, some_append p xs ys))
+some_append p (x ∷ xs) ys = grind (arith, some_append p xs ys)
 
 -- Visits of the same parts are one, so visits that are the same are.
-abbrev visit_of : ℕ → ℕ → ℕ → ℕ → ℕ → Visit
-visit_of c f l n s = record { card = c; from = f; to = l; count = n; sum = s }
 
 pub same_parts : (v w : Visit) → v.card ≡ w.card → v.from ≡ w.from → v.to ≡ w.to → v.count ≡ w.count → v.sum ≡ w.sum → v ≡ w
-same_parts v w c f l n s =
-    let e : visit_of v.card v.from v.to v.count v.sum ≡ visit_of w.card w.from w.to w.count w.sum = cc in e
+same_parts v w c f l n s = grind arith
 
 pub same_visits : (t : Terms) (v w : Visit) → same_visit t v w ≡ true → v ≡ w
 unfolding same_visit
-same_visits t v w h = same_parts v w (grind (arith, nat_tests)) (grind (arith, nat_tests)) (grind (arith, nat_tests)) (grind (arith, nat_tests)) (grind (arith, nat_tests))
+same_visits t v w h = grind arith
 
 pub same_itself : (t : Terms) (v : Visit) → same_visit t v v ≡ true
 unfolding same_visit
-same_itself t v = grind (arith, nat_tests)
+same_itself t v = grind arith
 
 -- A visit differs from one that has more readings.
 pub fewer_differs : (t : Terms) (z v : Visit) → v.count < z.count → (same_visit t v z ≡ false) × (same_visit t z v ≡ false)
@@ -98,11 +97,7 @@ all_some t P v (w ∷ ws) a h =
 -- A visit is among those that pass a test if it passes and is among all.
 pub some_kept : (t : Terms) (p : Visit → Bool) (v : Visit) (ws : List Visit) → some (same_visit t v) (filter p ws) ≡ (p v && some (same_visit t v) ws)
 some_kept t p v [] = split (p v) (λ o. simp o) (λ o. simp o)
-some_kept t p v (w ∷ ws) =
-    let ih = some_kept t p v ws in
-    split (same_visit t v w)
-    (λ o. let e : p v ≡ p w = ap p (same_visits t v w o) in split (p w) (λ k. let j = e ∙ k in simp (k, o, j)) (λ k. let j = e ∙ k in simp (k, o, ih, j)))
-    (λ o. split (p w) (λ k. simp (k, o, ih)) (λ k. simp (k, o, ih)))
+some_kept t p v (w ∷ ws) = grind (arith, some_kept t p v ws, same_visits)
 
 pub absent_kept : (t : Terms) (p : Visit → Bool) (v : Visit) (ws : List Visit) → Absent t ws v → Absent t (filter p ws) v
 absent_kept t p v ws h = some_kept t p v ws ∙ and_right (p v) (some (same_visit t v) ws) h

@@ -24,7 +24,7 @@ unfolding kept too_late
 kept_rising t m n h e = grind (arith, nat_tests)
 
 unkept_late : (t : Terms) (m : ℕ) (e : Reading) → kept t m e ≡ false → too_late t m e ≡ true
-unkept_late t m e h = split (too_late t m e) (λ o. o) (λ o. let k = timely_kept t m e o in cc)
+unkept_late t m e h = grind (arith, nat_tests, timely_kept)
 
 pub live_rising : (t : Terms) (m n : ℕ) → m ≤ n → (v : Visit) → (live t m v && live t n v) ≡ live t n v
 unfolding live expired
@@ -78,12 +78,7 @@ card_far t u w x h f = (grind (arith, nat_tests), grind (arith, nat_tests))
 
 stays_first : (t : Terms) (m : ℕ) (u w : Visit) (xs : List Visit) → u.card < w.card → AllByRecursion (Follows t w) xs → merge_in t u (live_only t m xs) ≡ u ∷ live_only t m xs
 stays_first t m u w [] h a = refl
-stays_first t m u w (x ∷ xs) h a =
-    let f = card_far t u w x h a.0 in
-    let n : near t u x ≡ false = f.0 in
-    let b : visit_before t x u ≡ false = f.1 in
-    let ih = stays_first t m u w xs h a.1 in
-    split (live t m x) (λ l. simp (l, n, b)) (λ l. simp (l, ih))
+stays_first t m u w (x ∷ xs) h a = grind (arith, nat_tests, card_far t u w x h a.0, stays_first t m u w xs h a.1)
 
 -- Merging a live visit that reaches only live ones, and forgetting expired ones, go in either order.
 pub live_merge : (t : Terms) (m : ℕ) (u : Visit) (vs : List Visit) → u.from ≤ u.to → live t m u ≡ true → ReachesLive t m u vs → Apart t vs
@@ -103,8 +98,7 @@ live_merge t m u (w ∷ ws) h l r p =
 
 -- The same visit passes the same tests.
 pub differ : (t : Terms) (p : Visit → Bool) (v w : Visit) → p v ≡ false → p w ≡ true → same_visit t v w ≡ false
-differ t p v w a b =
-    split (same_visit t v w) (λ o. let e = same_visits t v w o in cc) (λ o. o)
+differ t p v w a b = grind (arith, nat_tests, same_visits)
 
 -- An expired visit is among the merged ones if it was there before.
 pub dead_merge : (t : Terms) (m : ℕ) (v : Visit) → live t m v ≡ false → (u : Visit) (vs : List Visit) → live t m u ≡ true → ReachesLive t m u vs → Apart t vs
@@ -160,9 +154,7 @@ late_differs t m e x h k = grind (arith, nat_tests)
 
 pub contains_kept : (t : Terms) (m : ℕ) (e : Reading) (xs : List Reading) → too_late t m e ≡ false → contains t e (kept_only t m xs) ≡ contains t e xs
 contains_kept t m e [] h = refl
-contains_kept t m e (x ∷ xs) h =
-    let ih = contains_kept t m e xs h in
-    split (kept t m x) (λ k. simp (k, ih)) (λ k. let q = late_differs t m e x h (unkept_late t m x k) in simp (k, q, ih))
+contains_kept t m e (x ∷ xs) h = grind (arith, nat_tests, contains_kept t m e xs h, late_differs, unkept_late)
 
 -- Putting it in its place and forgetting those that are too late go in either order.
 late_stop : (t : Terms) (m : ℕ) (e x y : Reading) → too_late t m e ≡ false → too_late t m x ≡ true → reading_before t x e ≡ false → reading_before t x y ≡ true
@@ -173,10 +165,7 @@ late_stop t m e x y h k o b = grind (arith, nat_tests)
 insert_first : (t : Terms) (m : ℕ) (e x : Reading) (ys : List Reading) → too_late t m e ≡ false → too_late t m x ≡ true → reading_before t x e ≡ false
     → AllByRecursion (λ y. reading_before t x y ≡ true) ys → insert_reading t e (kept_only t m ys) ≡ e ∷ kept_only t m ys
 insert_first t m e x [] h k o a = refl
-insert_first t m e x (y ∷ ys) h k o a =
-    let b = late_stop t m e x y h k o a.0 in
-    let ih = insert_first t m e x ys h k o a.1 in
-    split (kept t m y) (λ l. simp (l, b)) (λ l. simp (l, ih))
+insert_first t m e x (y ∷ ys) h k o a = grind (arith, nat_tests, late_stop t m e x y h k o a.0, insert_first t m e x ys h k o a.1)
 
 pub insert_kept : (t : Terms) (m : ℕ) (e : Reading) (xs : List Reading) → too_late t m e ≡ false → SortedReadings t xs
     → insert_reading t e (kept_only t m xs) ≡ kept_only t m (insert_reading t e xs)

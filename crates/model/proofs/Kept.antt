@@ -9,7 +9,7 @@ use Rattle.visit.specs.declared.Reading.{Reading}
 use Rattle.visit.specs.declared.Terms.{Terms}
 use Rattle.visit.specs.declared.Visit.{Visit}
 use Rattle.visit.specs.Readings.{gap_of, kept, same_reading, too_late}
-use Rattle.visit.specs.Visits.{expired, grown, joins, live, merged, near, same_visit, single, visit_before}
+use Rattle.visit.specs.Visits.{expired, grown, live, merged, near, same_visit, single, visit_before}
 use Rattle.command.specs.declared.Command.TheVariants.{Reading as AReading}
 use Rattle.command.specs.declared.Refusal.TheVariants.{Duplicate}
 use Rattle.command.specs.Outcomes.{refused}
@@ -39,40 +39,26 @@ unfolding live expired
 grown_live t m e v = refl
 
 more_kept : {X : Type 0} (p : X → Bool) (x : X) (xs : List X) → length (filter p xs) ≤ length (filter p (x ∷ xs))
-more_kept p x xs = split (p x) (λ o. simp o (omega arith)) (λ o. simp o (omega arith))
+more_kept p x xs = grind (arith, nat_tests)
 
 both_kept : {X Y : Type 0} (p : X → Bool) (q : Y → Bool) (x : X) (xs : List X) (y : Y) (ys : List Y) → p x ≡ q y → length (filter p xs) ≤ length (filter q ys)
     → length (filter p (x ∷ xs)) ≤ length (filter q (y ∷ ys))
-both_kept p q x xs y ys e h = split (q y) (λ o. let j = e ∙ o in simp (o, j) (omega arith)) (λ o. let j = e ∙ o in simp (o, j) h)
+both_kept p q x xs y ys e h = grind (arith, nat_tests)
 
 live_prepend : (t : Terms) (m : ℕ) (e : Reading) (vs : List Visit) (es : List Reading) → length (live_only t m vs) ≤ length (filter (recent t m) es)
     → length (live_only t m (prepend t e vs)) ≤ length (filter (recent t m) (e ∷ es))
 live_prepend t m e [] es h = both_kept (live t m) (recent t m) (single e) [] e es (single_recent t m e) h
-live_prepend t m e (v ∷ vs) es h =
-    split (joins t e v)
-    (λ o.
-    let g = grown_live t m e v in
-    let k : length (live_only t m (grown e v ∷ vs)) ≤ length (live_only t m (v ∷ vs)) = both_kept (live t m) (live t m) (grown e v) vs v vs g (omega arith) in
-    let j = more_kept (recent t m) e es in
-    simp o (omega arith))
-    (λ o. simp o (both_kept (live t m) (recent t m) (single e) (v ∷ vs) e es (single_recent t m e) h))
+live_prepend t m e (v ∷ vs) es h = grind (arith, nat_tests, grown_live t m e v, more_kept (recent t m) e es, both_kept (live t m) (recent t m) (single e) (v ∷ vs) e es (single_recent t m e) h, single_recent t m e)
 
 pub few_live : (t : Terms) (m : ℕ) (es : List Reading) → length (live_only t m (visits t es)) ≤ length (filter (recent t m) es)
 few_live t m [] = omega arith
 few_live t m (e ∷ es) = live_prepend t m e (visits t es) es (few_live t m es)
 
 pub image_holds : (t : Terms) (k : Reference) → Holds t (image t k) k
-image_holds t k =
-    let m = k.watermark in
-    record {
-      watermark = refl;
-      live = kept_alike (live t m) (λ v. leb m (v.to + gap_of t v.card + t.lateness)) (live_is t m) (visits t k.readings);
-      seen = kept_alike (kept t m) (λ e. leb m (e.time + t.lateness)) (kept_is t m) k.readings;
-      few = few_live t m k.readings;
-    }
+image_holds t k = grind (arith, nat_tests, kept_alike, live_is, kept_is, few_live)
 
 pub little_kept : LittleKept
-little_kept t cs = subst (λ (s : Store). Holds t s (after t empty cs)) (sym (all_kept t cs)) (image_holds t (after t empty cs))
+little_kept t cs = grind (arith, nat_tests, all_kept t cs, image_holds t (after t empty cs))
 
 -- A kept reading that comes again is refused.
 same_reading_itself : (t : Terms) (e : Reading) → same_reading t e e ≡ true
@@ -85,17 +71,7 @@ kept_timely t m e h = grind (arith, nat_tests)
 
 kept_again : (t : Terms) (m : ℕ) (es : List Reading) → AllByRecursion (λ e. (too_late t m e ≡ false) × (contains t e (kept_only t m es) ≡ true)) (kept_only t m es)
 kept_again t m [] = tt
-kept_again t m (e ∷ es) =
-    let ih = kept_again t m es in
-    split (kept t m e)
-    (λ o.
-    let s = same_reading_itself t e in
-    simp o (
-      (kept_timely t m e o, simp s),
-      All-weaker (λ x. (too_late t m x ≡ false) × (contains t x (kept_only t m es) ≡ true)) (λ x. (too_late t m x ≡ false) × (contains t x (e ∷ kept_only t m es) ≡ true))
-          (λ x h. (h.0, or_right (same_reading t x e) (contains t x (kept_only t m es)) h.1)) (kept_only t m es) ih,
-    ))
-    (λ o. simp o ih)
+kept_again t m (e ∷ es) = grind (arith, nat_tests, kept_again t m es, same_reading_itself t e, kept_timely, All-weaker, or_right)
 
 refused_again : (t : Terms) (s : Store) (e : Reading) → (too_late t s.watermark e ≡ false) × (contains t e s.seen ≡ true) → store_outcome t s (AReading e) ≡ refused (Duplicate e.time)
 refused_again t s e h = simp (h.0, h.1)
@@ -159,12 +135,10 @@ without_shorter n (x ∷ xs) h =
 
 unused_without : (n k : ℕ) (xs : List Reading) → k < n → used k (without n xs) ≡ used k xs
 unused_without n k [] h = refl
-unused_without n k (x ∷ xs) h =
-    let ih = unused_without n k xs h in
-    split (eqb x.serial n) (λ o. let q : eqb x.serial k ≡ false = grind (arith, nat_tests) in simp (o, q, ih)) (λ o. simp (o, ih))
+unused_without n k (x ∷ xs) h = grind (arith, nat_tests, unused_without n k xs h)
 
 pub unused_serial : (n : ℕ) (xs : List Reading) → length xs ≤ n → (k : ℕ) × (k ≤ n) × (used k xs ≡ false)
-unused_serial zero xs h = (0, omega arith, let e = nil_from_length xs (omega arith) in ap (λ (ys : List Reading). used 0 ys) e)
+unused_serial zero xs h = grind (arith, nat_tests, nil_from_length)
 unused_serial (suc n) xs h =
     split (used (suc n) xs)
     (λ o.

@@ -1,6 +1,5 @@
 pub mod Common
 pub mod Places
-pub mod Walks
 pub mod Order
 pub mod Merge
 pub mod Changes

@@ -1,5 +1,5 @@
 -- The ledger by card and day: its keys rise, and each line has the number and the sum of its visits.
-use Rattle.std.proofs.Common.{◌≡◌, ℕ, ◌+◌, ◌-◌, ◌≤◌, Bool, true, false, cond, ◌&&◌, eqb, List, [], ◌∷◌, length, sum_by, filter, refl, ap, ◌∙◌, arith}
+use Rattle.std.proofs.Common.{◌≡◌, ℕ, ◌+◌, ◌≤◌, Bool, true, false, cond, ◌&&◌, eqb, List, [], ◌∷◌, length, sum_by, filter, refl, ap, ◌∙◌, arith}
 use Rattle.std.specs.List.{AllByRecursion}
 use Rattle.std.proofs.ByRecursion.{All-weaker}
 use Rattle.std.proofs.lemmas.List.Sums.{sum_by-cons}
@@ -7,9 +7,8 @@ use Rattle.std.proofs.lemmas.Bool.Decides.{nat_tests}
 use Rattle.visit.specs.declared.Line.{Line}
 use Rattle.visit.specs.declared.Terms.{Terms}
 use Rattle.visit.specs.declared.Visit.{Visit}
-use Rattle.visit.specs.Lines.{line_before, line_minus, line_of, line_plus, same_key}
-use Rattle.model.specs.Ledger.{add_line, add_visits, take_line, take_visits, totals}
-use Rattle.model.specs.Store.{posted}
+use Rattle.visit.specs.Lines.{line_before, line_of, line_plus, same_key}
+use Rattle.model.specs.Ledger.{add_line, add_visits, totals}
 use Rattle.model.specs.Unseen.{Lined, TotalsRight, entry, lines_for, visits_for}
 use Rattle.model.proofs.Common.{kept_none, split}
 use Rattle.model.proofs.Totals.{key_after, key_through, line_parts, one_visit, plus_before}
@@ -21,11 +20,7 @@ before_plus t l x a h = h
 
 before_line : (t : Terms) (l a : Line) (xs : List Line) → line_before t l a ≡ true → AllByRecursion (λ x. line_before t l x ≡ true) xs → AllByRecursion (λ x. line_before t l x ≡ true) (add_line t a xs)
 before_line t l a [] h b = (h, tt)
-before_line t l a (x ∷ xs) h b =
-    let ih = before_line t l a xs h b.1 in
-    split (line_before t x a)
-    (λ o. simp o (b.0, ih))
-    (λ o. split (same_key t x a) (λ k. simp (o, k) (before_plus t l x a b.0, b.1)) (λ k. simp (o, k) (h, b)))
+before_line t l a (x ∷ xs) h b = grind (arith, nat_tests, before_line t l a xs h b.1, before_plus t l x a b.0)
 
 pub lined_line : (t : Terms) (a : Line) (ls : List Line) → 1 ≤ a.visits → Lined t ls → Lined t (add_line t a ls)
 lined_line t a [] h p = (h, tt, tt)
@@ -51,44 +46,6 @@ single_line : (t : Terms) (v : Visit) → (line_of t v).visits ≡ 1
 unfolding line_of
 single_line t v = refl
 
--- Taking a visit's line keeps it in order too, and so does the whole of what a command does to a ledger.
-minus_before : (t : Terms) (x a y : Line) → line_before t x y ≡ true → line_before t (line_minus x a) y ≡ true
-unfolding line_before
-minus_before t x a y h = h
-
-before_minus : (t : Terms) (l x a : Line) → line_before t l x ≡ true → line_before t l (line_minus x a) ≡ true
-unfolding line_before
-before_minus t l x a h = h
-
-before_take : (t : Terms) (l a : Line) (xs : List Line) → AllByRecursion (λ x. line_before t l x ≡ true) xs → AllByRecursion (λ x. line_before t l x ≡ true) (take_line t a xs)
-before_take t l a [] b = tt
-before_take t l a (x ∷ xs) b =
-    let ih = before_take t l a xs b.1 in
-    split (same_key t x a)
-    (λ k. split (eqb x.visits a.visits) (λ e. simp (k, e) b.1) (λ e. simp (k, e) (before_minus t l x a b.0, b.1)))
-    (λ k. simp k (b.0, ih))
-
-visits_left : (n m : ℕ) → 1 ≤ n → m ≡ 1 → eqb n m ≡ false → 1 ≤ n - m
-visits_left n m h o e = grind (arith, nat_tests)
-
-pub lined_take : (t : Terms) (a : Line) (ls : List Line) → a.visits ≡ 1 → Lined t ls → Lined t (take_line t a ls)
-lined_take t a [] h p = tt
-lined_take t a (x ∷ xs) h p =
-    let ih = lined_take t a xs h p.2 in
-    split (same_key t x a)
-    (λ k. split (eqb x.visits a.visits)
-    (λ e. simp (k, e) p.2)
-    (λ e. simp (k, e)
-    (visits_left x.visits a.visits p.0 h e, All-weaker (λ y. line_before t x y ≡ true) (λ y. line_before t (line_minus x a) y ≡ true) (minus_before t x a) xs p.1, p.2)))
-    (λ k. simp k (p.0, before_take t x a xs p.1, ih))
-
-pub lined_take_visits : (t : Terms) (vs : List Visit) (ls : List Line) → Lined t ls → Lined t (take_visits t vs ls)
-lined_take_visits t [] ls p = p
-lined_take_visits t (v ∷ vs) ls p = lined_take_visits t vs (take_line t (line_of t v) ls) (lined_take t (line_of t v) ls (single_line t v) p)
-
-pub lined_posted : (t : Terms) (gone new : List Visit) (ls : List Line) → Lined t ls → Lined t (posted t gone new ls)
-lined_posted t gone new ls p = lined_visits t new (take_visits t gone ls) (lined_take_visits t gone ls p)
-
 -- A line that is added adds its number of visits, or its sum, to what the lines of its key have.
 abbrev has_key : ℕ → ℕ → Line → Bool
 has_key card day l = eqb l.card card && eqb l.day day
@@ -98,46 +55,28 @@ unfolding same_key
 key_alike t card day x a h = grind (arith, nat_tests)
 
 first_in : {X : Type 0} (f : X → ℕ) (p : X → Bool) (x : X) (xs : List X) → sum_by f (filter p (x ∷ xs)) ≡ cond (p x) (f x) 0 + sum_by f (filter p xs)
-first_in f p x xs = split (p x) (λ o. simp o (sum_by-cons f x (filter p xs))) (λ o. simp o (omega arith))
+first_in f p x xs = grind (arith, nat_tests, sum_by-cons f x (filter p xs))
 
 sum_line : (t : Terms) (card day : ℕ) (f : Line → ℕ) → ((x a : Line) → f (line_plus x a) ≡ f x + f a) → (a : Line) (ls : List Line)
     → sum_by f (lines_for card day (add_line t a ls)) ≡ sum_by f (lines_for card day ls) + cond (has_key card day a) (f a) 0
 sum_line t card day f h a [] = first_in f (has_key card day) a [] ∙ omega arith
-sum_line t card day f h a (x ∷ xs) =
-    let ih = sum_line t card day f h a xs in
-    let r = first_in f (has_key card day) x xs in
-    split (line_before t x a)
-    (λ o. let l = first_in f (has_key card day) x (add_line t a xs) in simp o (omega arith))
-    (λ o. split (same_key t x a)
-    (λ k.
-    let l = first_in f (has_key card day) (line_plus x a) xs in
-    let s : cond (has_key card day x) (f (line_plus x a)) 0 ≡ cond (has_key card day x) (f x) 0 + cond (has_key card day a) (f a) 0
-    = (let j = key_alike t card day x a k in let e = h x a in split (has_key card day a) (λ b. let c = j ∙ b in simp (c, b, e)) (λ b. let c = j ∙ b in simp (c, b) (omega arith))) in
-    simp (o, k) (omega arith))
-    (λ k. let l = first_in f (has_key card day) a (x ∷ xs) in simp (o, k) (omega arith)))
+sum_line t card day f h a (x ∷ xs) = grind (arith, nat_tests, sum_line t card day f h a xs, first_in f (has_key card day) x xs, first_in f (has_key card day) x (add_line t a xs), first_in f (has_key card day) (line_plus x a) xs, first_in f (has_key card day) a (x ∷ xs), key_alike)
 
 sum_visits : (t : Terms) (card day : ℕ) (f : Line → ℕ) → ((x a : Line) → f (line_plus x a) ≡ f x + f a) → (vs : List Visit) (ls : List Line)
     → sum_by f (lines_for card day (add_visits t vs ls)) ≡ sum_by f (lines_for card day ls) + sum_by (λ v. f (line_of t v)) (filter (λ v. has_key card day (line_of t v)) vs)
 sum_visits t card day f h [] ls = omega arith
-sum_visits t card day f h (v ∷ vs) ls =
-    let ih = sum_visits t card day f h vs (add_line t (line_of t v) ls) in
-    let l = sum_line t card day f h (line_of t v) ls in
-    let r = first_in (λ w. f (line_of t w)) (λ w. has_key card day (line_of t w)) v vs in
-    omega arith
+sum_visits t card day f h (v ∷ vs) ls = grind (arith, nat_tests, sum_visits t card day f h vs (add_line t (line_of t v) ls), sum_line t card day f h (line_of t v) ls, first_in (λ w. f (line_of t w)) (λ w. has_key card day (line_of t w)) v vs)
 
 -- The line of a visit has its card, its day and its sum, and one visit.
 key_of_visit : (t : Terms) (card day : ℕ) (vs : List Visit) → filter (λ v. has_key card day (line_of t v)) vs ≡ visits_for t card day vs
 unfolding line_of
 key_of_visit t card day vs = refl
 
-visits_of_lines : (t : Terms) (vs : List Visit) → sum_by (λ v. (line_of t v).visits) vs ≡ length vs
+pub visits_of_lines : (t : Terms) (vs : List Visit) → sum_by (λ v. (line_of t v).visits) vs ≡ length vs
 visits_of_lines t [] = refl
-visits_of_lines t (v ∷ vs) =
-    let ih = visits_of_lines t vs in
-    let o = single_line t v in
-    sum_by-cons (λ w. (line_of t w).visits) v vs ∙ omega arith
+visits_of_lines t (v ∷ vs) = grind (arith, nat_tests, visits_of_lines t vs, single_line t v, sum_by-cons (λ w. (line_of t w).visits) v vs)
 
-sums_of_lines : (t : Terms) (vs : List Visit) → sum_by (λ v. (line_of t v).sum) vs ≡ sum_by (λ v. v.sum) vs
+pub sums_of_lines : (t : Terms) (vs : List Visit) → sum_by (λ v. (line_of t v).sum) vs ≡ sum_by (λ v. v.sum) vs
 unfolding line_of
 sums_of_lines t vs = refl
 
@@ -151,35 +90,19 @@ none_after t card day l ls h a =
     kept_none (has_key card day) ls (All-weaker (λ x. line_before t l x ≡ true) (λ x. has_key card day x ≡ false) (λ x b. other_key t card day l x h b) ls a)
 
 one_entry : (card day : ℕ) (l : Line) → has_key card day l ≡ true → 1 ≤ l.visits → l ∷ [] ≡ entry card day (0 + l.visits) (0 + l.sum)
-one_entry card day l h p =
-    let z : eqb (0 + l.visits) 0 ≡ false = grind (arith, nat_tests) in
-    let c : l.card ≡ card = grind (arith, nat_tests) in
-    let d : l.day ≡ day = grind (arith, nat_tests) in
-    simp z (ap (λ (x : Line). x ∷ []) (line_parts l.card l.day l.visits l.sum card day (0 + l.visits) (0 + l.sum) c d (omega arith) (omega arith)))
+one_entry card day l h p = grind (arith, nat_tests, line_parts)
 
 pub lined_entry : (t : Terms) (card day : ℕ) (ls : List Line) → Lined t ls
     → lines_for card day ls ≡ entry card day (sum_by (λ l. l.visits) (lines_for card day ls)) (sum_by (λ l. l.sum) (lines_for card day ls))
 lined_entry t card day [] p = refl
-lined_entry t card day (l ∷ ls) p =
-    let ih = lined_entry t card day ls p.2 in
-    split (has_key card day l)
-    (λ o. let n = none_after t card day l ls o p.1 in simp (o, n) (one_entry card day l o p.0))
-    (λ o. simp o ih)
+lined_entry t card day (l ∷ ls) p = grind (arith, nat_tests, lined_entry t card day ls p.2, none_after, one_entry)
 
 -- The number of visits and the sum of each card and day.
 visits_right : (t : Terms) (card day : ℕ) (vs : List Visit) → sum_by (λ l. l.visits) (lines_for card day (totals t vs)) ≡ length (visits_for t card day vs)
-visits_right t card day vs =
-    let a = sum_visits t card day (λ l. l.visits) (λ x y. refl) vs [] in
-    let b = visits_of_lines t (filter (λ v. has_key card day (line_of t v)) vs) in
-    let c = ap (λ (ws : List Visit). length ws) (key_of_visit t card day vs) in
-    a ∙ omega arith
+visits_right t card day vs = grind (arith, nat_tests, sum_visits t card day (λ l. l.visits) (λ x y. refl) vs [], visits_of_lines t (filter (λ v. has_key card day (line_of t v)) vs), key_of_visit t card day vs)
 
 sums_right : (t : Terms) (card day : ℕ) (vs : List Visit) → sum_by (λ l. l.sum) (lines_for card day (totals t vs)) ≡ sum_by (λ v. v.sum) (visits_for t card day vs)
-sums_right t card day vs =
-    let a = sum_visits t card day (λ l. l.sum) (λ x y. refl) vs [] in
-    let b = sums_of_lines t (filter (λ v. has_key card day (line_of t v)) vs) in
-    let c = ap (λ (ws : List Visit). sum_by (λ v. v.sum) ws) (key_of_visit t card day vs) in
-    a ∙ omega arith
+sums_right t card day vs = grind (arith, nat_tests, sum_visits t card day (λ l. l.sum) (λ x y. refl) vs [], sums_of_lines t (filter (λ v. has_key card day (line_of t v)) vs), key_of_visit t card day vs)
 
 pub totals_right : TotalsRight
 totals_right t vs = (

@@ -37,14 +37,10 @@ unfolding joins
 joined_time t x u l h o = (grind (arith, nat_tests), grind (arith, nat_tests), grind (arith, nat_tests))
 
 merged_single : (t : Terms) (x : Reading) (u : Visit) → NotAfter x u → u.from ≤ u.to → joins t x u ≡ true → merged u (single x) ≡ grown x u
-merged_single t x u l h o =
-    let k = joined_time t x u l h o in
-    same_parts (merged u (single x)) (grown x u) refl (omega arith) (omega arith) refl refl
+merged_single t x u l h o = grind (arith, nat_tests, joined_time t x u l h o, same_parts)
 
 single_merged : (t : Terms) (x : Reading) (u : Visit) → NotAfter x u → u.from ≤ u.to → joins t x u ≡ true → merged (single x) u ≡ grown x u
-single_merged t x u l h o =
-    let k = joined_time t x u l h o in
-    same_parts (merged (single x) u) (grown x u) k.0 (omega arith) (omega arith) (omega arith) (omega arith)
+single_merged t x u l h o = grind (arith, nat_tests, joined_time t x u l h o, same_parts)
 
 -- What stands apart from a visit stays as it is.
 follows_far : (t : Terms) (u v : Visit) → u.from ≤ u.to → v.from ≤ v.to → Follows t u v → (near t u v ≡ false) × (visit_before t v u ≡ false)
@@ -53,7 +49,7 @@ follows_far t u v h k f = (grind (arith, nat_tests), grind (arith, nat_tests))
 
 pub merge_apart : (t : Terms) (u : Visit) (vs : List Visit) → u.from ≤ u.to → AllByRecursion (Follows t u) vs → Apart t vs → merge_in t u vs ≡ u ∷ vs
 merge_apart t u [] h a p = refl
-merge_apart t u (v ∷ vs) h a p = let q = follows_far t u v h p.0 a.0 in simp (q.0, q.1)
+merge_apart t u (v ∷ vs) h a p = grind (arith, follows_far t u v h p.0 a.0)
 
 -- A reading that joins the visit that is merged.
 -- what is near stays near to a visit with a longer front
@@ -84,9 +80,7 @@ grown_stops t x w v o l = grind (arith, nat_tests)
 
 grown_merged : (t : Terms) (x : Reading) (w v : Visit) → joins t x w ≡ true → near t w v ≡ true → NotAfter x v → merged (grown x w) v ≡ grown x (merged w v)
 unfolding joins near
-grown_merged t x w v o n l =
-    let k : x.time ≤ v.from = grind (arith, nat_tests) in
-    same_parts (merged (grown x w) v) (grown x (merged w v)) refl (omega arith) refl (omega arith) (omega arith)
+grown_merged t x w v o n l = grind (arith, nat_tests, same_parts)
 
 joins_through : (t : Terms) (x : Reading) (w : Visit) (vs : List Visit) → joins t x w ≡ true → w.from ≤ w.to → AllByRecursion (NotAfter x) vs → Apart t vs
     → prepend t x (merge_in t w vs) ≡ merge_in t (grown x w) vs
@@ -117,9 +111,7 @@ near_grown t x u v l h o n = grind (arith, nat_tests)
 
 merged_grown : (t : Terms) (x : Reading) (u v : Visit) → NotAfter x u → joins t x v ≡ true → near t u v ≡ true → merged u (grown x v) ≡ grown x (merged u v)
 unfolding joins near
-merged_grown t x u v l o n =
-    let k : x.time ≤ u.from = grind (arith, nat_tests) in
-    same_parts (merged u (grown x v)) (grown x (merged u v)) refl (omega arith) refl (omega arith) (omega arith)
+merged_grown t x u v l o n = grind (arith, nat_tests, same_parts)
 
 follows_unjoined : (t : Terms) (x : Reading) (v : Visit) → NotAfter x v → v.from ≤ v.to → (w : Visit) → Follows t v w → joins t x w ≡ false
 unfolding joins
@@ -139,11 +131,7 @@ joined_passed t x u v l h k o n = grind (arith, nat_tests)
 
 front_joined : (t : Terms) (x : Reading) (u v : Visit) (vs : List Visit) → NotAfter x u → u.from ≤ u.to → AllByRecursion (NotAfter x) (v ∷ vs) → Apart t (v ∷ vs) → joins t x v ≡ true
     → prepend t x (merge_in t u (v ∷ vs)) ≡ merge_in t u (grown x v ∷ vs)
-front_joined t x u v vs l h a p o =
-    split (near t u v)
-    (λ n. simp (n, near_grown t x u v l h o n, merged_grown t x u v l o n)
-    (joins_through t x (merged u v) vs (joins_merged_right t x u v o n) (merged_order u v h) a.1 p.2))
-    (λ n. let b = joined_passed t x u v l h p.0 o n in simp (n, b, o, passed_grown_far t x u v p.0 h n b, passed_grown t x u v a.0 o b))
+front_joined t x u v vs l h a p o = grind (arith, nat_tests, merged_order u v h, near_grown, merged_grown, joins_through, joins_merged_right, joined_passed, passed_grown_far, passed_grown)
 
 -- A reading that does not join the first visit joins none of them.
 front_far : (t : Terms) (x : Reading) (u v : Visit) (vs : List Visit) → u.from ≤ u.to → AllByRecursion (NotAfter x) (v ∷ vs) → Apart t (v ∷ vs) → joins t x v ≡ false
@@ -156,19 +144,13 @@ front_far t x u v vs h a p o =
 
 single_first : (t : Terms) (x : Reading) (u : Visit) (vs : List Visit) → NotAfter x u → u.from ≤ u.to
     → merge_in t u (single x ∷ vs) ≡ cond (joins t x u) (merge_in t (grown x u) vs) (single x ∷ merge_in t u vs)
-single_first t x u vs l h =
-    split (joins t x u)
-    (λ o. simp (near_joins t x u l h, merged_single t x u l h o, o))
-    (λ o. simp (near_joins t x u l h, far_before t x u l o, o))
+single_first t x u vs l h = grind (arith, nat_tests, near_joins t x u l h, merged_single, far_before)
 
 -- A reading in front of all may be put there before or after the merging.
 pub front_merge : (t : Terms) (x : Reading) (u : Visit) (vs : List Visit) → NotAfter x u → u.from ≤ u.to → AllByRecursion (NotAfter x) vs → Apart t vs
     → prepend t x (merge_in t u vs) ≡ merge_in t u (prepend t x vs)
 front_merge t x u [] l h a p = sym (single_first t x u [] l h)
-front_merge t x u (v ∷ vs) l h a p =
-    split (joins t x v)
-    (λ o. simp o (front_joined t x u v vs l h a p o))
-    (λ o. simp o (front_far t x u v vs h a p o ∙ sym (single_first t x u (v ∷ vs) l h)))
+front_merge t x u (v ∷ vs) l h a p = grind (arith, nat_tests, single_first t x u (v ∷ vs) l h, front_joined, front_far)
 
 -- A reading in front of all is merged as it is put there.
 prepend_merges : (t : Terms) (e : Reading) (vs : List Visit) → AllByRecursion (NotAfter e) vs → Apart t vs → prepend t e vs ≡ merge_in t (single e) vs
@@ -186,12 +168,7 @@ unpassed_all_readings t e x xs q s =
 -- To put a reading among others is to merge its visit into theirs.
 pub insert_merges : (t : Terms) (e : Reading) (xs : List Reading) → SortedReadings t xs → visits t (insert_reading t e xs) ≡ merge_in t (single e) (visits t xs)
 insert_merges t e [] s = refl
-insert_merges t e (x ∷ xs) s =
-    let passed = front_merge t x (single e) (visits t xs) in
-    let not_after = visits_not_after t e (x ∷ xs) in
-    split (reading_before t x e)
-    (λ q. simp q (ap (prepend t x) (insert_merges t e xs s.1) ∙ passed (before_not_after t x e q) (omega arith) (sorted_not_after t x xs s.0) (visits_apart t xs s.1)))
-    (λ q. simp q (prepend_merges t e (visits t (x ∷ xs)) (not_after (unpassed_all_readings t e x xs q s)) (visits_apart t (x ∷ xs) s)))
+insert_merges t e (x ∷ xs) s = grind (arith, nat_tests, front_merge t x (single e) (visits t xs), visits_not_after t e (x ∷ xs), insert_merges t e xs s.1, sorted_not_after t x xs s.0, visits_apart t xs s.1, visits_apart t (x ∷ xs) s, before_not_after, prepend_merges, unpassed_all_readings)
 
 -- Merging keeps visits in order and apart.
 all_merge : (t : Terms) (P : Visit → Type 0) → ((a b : Visit) → near t a b ≡ true → P a → P b → P (merged a b)) → (u : Visit) (vs : List Visit) → P u → AllByRecursion P vs → AllByRecursion P (merge_in t u vs)
@@ -217,13 +194,7 @@ stopped_follows t u v h k n b = (grind (arith, nat_tests), grind (arith, nat_tes
 
 pub merge_keeps_apart : (t : Terms) (u : Visit) (vs : List Visit) → u.from ≤ u.to → Apart t vs → Apart t (merge_in t u vs)
 merge_keeps_apart t u [] h p = (h, tt, tt)
-merge_keeps_apart t u (v ∷ vs) h p =
-    split (near t u v)
-    (λ n. simp n (merge_keeps_apart t (merged u v) vs (merged_order u v h) p.2))
-    (λ n. split (visit_before t v u)
-    (λ b. simp (n, b)
-    (p.0, all_merge t (Follows t v) (follows_merged t v) u vs (passed_follows t u v p.0 h n b) p.1, merge_keeps_apart t u vs h p.2))
-    (λ b. simp (n, b) (let f = stopped_follows t u v p.0 h n b in (h, (f, all_follow t u v vs f p.0 p.1), p))))
+merge_keeps_apart t u (v ∷ vs) h p = grind (arith, nat_tests, merge_keeps_apart t (merged u v) vs (merged_order u v h) p.2, merged_order u v h, Follows t v, follows_merged t v, merge_keeps_apart t u vs h p.2, all_merge, passed_follows, stopped_follows, all_follow)
 
 -- The visits that are taken in are those near to the first, at every stage.
 near_same : (t : Terms) (u v : Visit) → u.from ≤ u.to → near t u v ≡ true → v.from ≤ v.to → (w : Visit) → Follows t v w × (w.from ≤ w.to) → near t (merged u v) w ≡ near t u w
@@ -252,10 +223,7 @@ abbrev Reached : Terms → Visit → List Visit → Type 0
 Reached t u vs = (back : List Visit) × (vs ≡ near_ones t u vs ++ back) × (merge_in t u vs ≡ merged_with u (near_ones t u vs) ∷ back)
 
 reached_near : (t : Terms) (u v : Visit) (vs : List Visit) → near t u v ≡ true → near_ones t (merged u v) vs ≡ near_ones t u vs → Reached t (merged u v) vs → Reached t u (v ∷ vs)
-reached_near t u v vs n q r =
-    let whole : vs ≡ near_ones t u vs ++ r.0 = r.1 ∙ ap (λ (l : List Visit). l ++ r.0) q in
-    let result : merge_in t (merged u v) vs ≡ merged_with (merged u v) (near_ones t u vs) ∷ r.0 = r.2 ∙ ap (λ (l : List Visit). merged_with (merged u v) l ∷ r.0) q in
-    (r.0, simp n (ap (λ (l : List Visit). v ∷ l) whole), simp n result)
+reached_near t u v vs n q r = grind (arith, nat_tests)
 
 reached_none : (t : Terms) (u : Visit) (vs : List Visit) → u.from ≤ u.to → AllByRecursion (Follows t u) vs → Apart t vs → Reached t u vs
 reached_none t u vs h a p =
@@ -299,7 +267,7 @@ unfolding near visit_before
 near_unpassed t u v k n h w f q = grind (arith, nat_tests)
 
 pub merge_shape : (t : Terms) (u : Visit) (vs : List Visit) → u.from ≤ u.to → Apart t vs → MergedAt t u vs
-merge_shape t u [] h p = record { front = []; back = []; parts = refl; result = refl }
+merge_shape t u [] h p = grind (arith, nat_tests)
 merge_shape t u (v ∷ vs) h p =
     let rest = λ (each : (w : Visit) → Follows t v w → Unpassed t u w). All-weaker (Follows t v) (Unpassed t u) each vs p.1 in
     split (near t u v)
@@ -315,18 +283,11 @@ third_far t e v w n f h x g = grind (arith, nat_tests)
 
 near_one : (t : Terms) (e : Reading) (v : Visit) (vs : List Visit) → near t (single e) v ≡ true → AllByRecursion (Follows t v) vs → Apart t vs → length (near_ones t (single e) vs) ≤ 1
 near_one t e v [] n a p = omega arith
-near_one t e v (w ∷ ws) n a p =
-    let far = All-weaker (Follows t w) (λ x. near t (single e) x ≡ false) (third_far t e v w n a.0 p.0) ws p.1 in
-    split (near t (single e) w)
-    (λ o. simp (o, kept_none (near t (single e)) ws far) (omega arith))
-    (λ o. simp o (near_one t e v ws n a.1 p.2))
+near_one t e v (w ∷ ws) n a p = grind (arith, nat_tests, All-weaker (Follows t w) (λ x. near t (single e) x ≡ false) (third_far t e v w n a.0 p.0) ws p.1, Follows t w, third_far t e v w n a.0 p.0, near_one t e v ws n a.1 p.2, kept_none)
 
 pub near_two : (t : Terms) (e : Reading) (vs : List Visit) → Apart t vs → length (near_ones t (single e) vs) ≤ 2
 near_two t e [] p = omega arith
-near_two t e (v ∷ vs) p =
-    split (near t (single e) v)
-    (λ o. simp o (omega (arith, near_one t e v vs o p.1 p.2)))
-    (λ o. simp o (near_two t e vs p.2))
+near_two t e (v ∷ vs) p = grind (arith, nat_tests, near_two t e vs p.2, near_one)
 
 -- The visits of two lists of readings, none of the first with any of the second in one visit, are those of each.
 abbrev pub Clear : Terms → List Reading → List Reading → Type 0
@@ -338,7 +299,7 @@ unjoined_grown t x y v o j = grind (arith, nat_tests)
 
 prepend_unjoined : (t : Terms) (x y : Reading) (vs : List Visit) → joins t x (single y) ≡ false → AllByRecursion (λ v. joins t x v ≡ false) vs → AllByRecursion (λ v. joins t x v ≡ false) (prepend t y vs)
 prepend_unjoined t x y [] o a = (o, tt)
-prepend_unjoined t x y (v ∷ vs) o a = split (joins t y v) (λ j. simp j (unjoined_grown t x y v o j, a.1)) (λ j. simp j (o, a))
+prepend_unjoined t x y (v ∷ vs) o a = grind (arith, nat_tests, unjoined_grown)
 
 visits_unjoined : (t : Terms) (x : Reading) (ys : List Reading) → AllByRecursion (λ y. joins t x (single y) ≡ false) ys → AllByRecursion (λ v. joins t x v ≡ false) (visits t ys)
 visits_unjoined t x [] a = tt
@@ -347,7 +308,7 @@ visits_unjoined t x (y ∷ ys) a = prepend_unjoined t x y (visits t ys) a.0 (vis
 prepend_append : (t : Terms) (x : Reading) (vs ws : List Visit) → AllByRecursion (λ v. joins t x v ≡ false) ws → prepend t x (vs ++ ws) ≡ prepend t x vs ++ ws
 prepend_append t x [] [] a = refl
 prepend_append t x [] (w ∷ ws) a = simp a.0
-prepend_append t x (v ∷ vs) ws a = split (joins t x v) (λ j. simp j) (λ j. simp j)
+prepend_append t x (v ∷ vs) ws a = grind (arith, nat_tests)
 
 pub visits_append : (t : Terms) (xs ys : List Reading) → Clear t xs ys → visits t (xs ++ ys) ≡ visits t xs ++ visits t ys
 visits_append t [] ys a = refl

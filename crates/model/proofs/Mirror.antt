@@ -1,5 +1,5 @@
 -- The store stands for the reference: at each command the same outcome, and after it the same again.
-use Rattle.std.proofs.Common.{◌≡◌, ℕ, ◌≤◌, false, ltb, List, [], ◌∷◌, Some, None, Ok, Err, Option, Result, sym, refl, ap, ◌∙◌, subst, arith}
+use Rattle.std.proofs.Common.{◌≡◌, ℕ, ◌≤◌, false, List, [], ◌∷◌, Some, None, Ok, Err, Option, Result, sym, refl, ap, ◌∙◌, subst, arith}
 use Rattle.std.proofs.lemmas.Bool.{ltb-false}
 use Rattle.visit.specs.declared.Line.{Line}
 use Rattle.visit.specs.declared.Reading.{Reading}
@@ -13,10 +13,9 @@ use Rattle.command.specs.declared.Refusal.{Refusal}
 use Rattle.command.specs.Bounds.{command_fault, terms_fault}
 use Rattle.command.specs.Outcomes.{Outcome}
 use Rattle.model.specs.Reference.{Reference, after, bounded_after, bounded_outcomes, bounded_plan, closed_of, empty, ledger_of, or_fault, outcome, outcome_by, outcomes, plan, state_by, step}
-use Rattle.model.specs.Sessions.{changes, closed_visits, contains, difference, insert_reading, some, visits}
+use Rattle.model.specs.Sessions.{changes, closed_visits, difference, insert_reading, some, visits}
 use Rattle.model.specs.Store.{Draft, Store, posted, closed_after, closed_before, draft, empty_store, finish, kept_only, live_only, merge_in, store_after, store_by, store_outcome, store_outcome_by, store_outcomes, store_step}
 use Rattle.model.specs.Unseen.{BoundedUnseen, ForgettingUnseen, bounded_draft, bounded_store_after, bounded_store_outcomes}
-use Rattle.model.proofs.Common.{split}
 use Rattle.model.proofs.Merge.{insert_merges}
 use Rattle.model.proofs.Order.{SortedReadings, apart_kept, insert_sorted, step_sorted, visits_apart}
 use Rattle.model.proofs.Expiry.{contains_kept, dead_closed, dead_merge, difference_live, insert_kept, kept_only_twice, live_merge, live_twice, timely_live, timely_reaches}
@@ -48,28 +47,15 @@ GoesOnBy t k (Err r) = Unit {0}
 -- A reading that is not too late, put in: the live visits and the kept readings of the next reference.
 pub live_insert : (t : Terms) (m : ℕ) (e : Reading) (xs : List Reading) → SortedReadings t xs → too_late t m e ≡ false
     → merge_in t (single e) (live_only t m (visits t xs)) ≡ live_only t m (visits t (insert_reading t e xs))
-live_insert t m e xs s h =
-    sym (live_merge t m (single e) (visits t xs) (omega arith) (timely_live t m e h) (timely_reaches t m e h (visits t xs)) (visits_apart t xs s))
-    ∙ ap (λ (vs : List Visit). live_only t m vs) (sym (insert_merges t e xs s))
+live_insert t m e xs s h = grind (arith, timely_live t m e h, timely_reaches t m e h (visits t xs), visits_apart t xs s, insert_merges t e xs s, live_merge)
 
 -- Each kind of command: the store drafts what the reference plans.
 pub draft_reading : (t : Terms) (k : Reference) (ls : List Line) → SortedReadings t k.readings → (e : Reading)
     → draft t (mirror t k ls) (AReading e) ≡ drafted_by t k.watermark (plan t k (AReading e))
-draft_reading t k ls s e =
-    split (too_late t k.watermark e)
-    (λ l. simp l)
-    (λ l.
-    let c = contains_kept t k.watermark e k.readings l in
-    split (contains t e k.readings)
-    (λ o. let d = c ∙ o in simp (l, o, d))
-    (λ o.
-    let d = c ∙ o in
-    let i = insert_kept t k.watermark e k.readings l s in
-    let v = live_insert t k.watermark e k.readings s l in
-    simp (l, o, d, i, v)))
+draft_reading t k ls s e = grind (arith, contains_kept, insert_kept, live_insert)
 
 pub draft_watermark : (t : Terms) (k : Reference) (ls : List Line) (m : ℕ) → draft t (mirror t k ls) (Watermark m) ≡ drafted_by t k.watermark (plan t k (Watermark m))
-draft_watermark t k ls m = split (ltb m k.watermark) (λ o. simp o) (λ o. simp o)
+draft_watermark t k ls m = grind arith
 
 pub draft_mirror : (t : Terms) (k : Reference) (ls : List Line) → SortedReadings t k.readings → (c : Command)
     → draft t (mirror t k ls) c ≡ drafted_by t k.watermark (plan t k c)
@@ -84,16 +70,8 @@ dead_insert t m e xs s h v d =
     ∙ ap (λ (vs : List Visit). some (same_visit t v) vs) (sym (insert_merges t e xs s))
 
 pub plan_goes_on : (t : Terms) (k : Reference) → SortedReadings t k.readings → (c : Command) → GoesOnBy t k (plan t k c)
-plan_goes_on t k s (AReading e) =
-    split (too_late t k.watermark e)
-    (λ l. simp l tt)
-    (λ l. split (contains t e k.readings)
-    (λ o. simp (l, o) tt)
-    (λ o. simp (l, o) (record { sorted = insert_sorted t e k.readings o s; rises = omega arith; same_dead = dead_insert t k.watermark e k.readings s l })))
-plan_goes_on t k s (Watermark m) =
-    split (ltb m k.watermark)
-    (λ o. simp o tt)
-    (λ o. simp o (record { sorted = s; rises = ltb-false m k.watermark o; same_dead = λ v d. refl }))
+plan_goes_on t k s (AReading e) = grind (arith, insert_sorted, dead_insert)
+plan_goes_on t k s (Watermark m) = grind (arith, ltb-false)
 
 -- The changes that the store works out from live visits are those of the reference.
 pub gone_mirror : (t : Terms) (k next : Reference) → Goes_on t k next
@@ -113,7 +91,7 @@ new_mirror t k next g =
 -- The end of a command: the same changes, and the store stands for the next reference.
 pub changes_mirror : (t : Terms) (k next : Reference) (ls : List Line) → Goes_on t k next
     → changes t (closed_before t (mirror t k ls)) (closed_after t (drafted t k.watermark next)) ≡ changes t (closed_of t k) (closed_of t next)
-changes_mirror t k next ls g = let a = gone_mirror t k next g in let b = new_mirror t k next g in cc
+changes_mirror t k next ls g = grind (arith, gone_mirror t k next g, new_mirror t k next g)
 
 pub ledger_right : (t : Terms) (k next : Reference) → SortedReadings t k.readings → Goes_on t k next
     → (finish t (mirror t k (ledger_of t k)) (drafted t k.watermark next)).ledger ≡ ledger_of t next
@@ -156,30 +134,19 @@ step_by_mirror t k (Ok next) s g = finish_mirror t k next s g
 step_by_mirror t k (Err r) s g = refl
 
 pub outcome_mirror : (t : Terms) (k : Reference) → SortedReadings t k.readings → (c : Command) → store_outcome t (image t k) c ≡ outcome t k c
-outcome_mirror t k s c =
-    ap (λ (d : Result Draft Refusal). store_outcome_by t (image t k) d) (draft_mirror t k (ledger_of t k) s c)
-    ∙ outcome_by_mirror t k (plan t k c) (plan_goes_on t k s c)
+outcome_mirror t k s c = grind (arith, draft_mirror t k (ledger_of t k) s c, outcome_by_mirror t k (plan t k c) (plan_goes_on t k s c), plan_goes_on t k s c)
 
 pub step_mirror : (t : Terms) (k : Reference) → SortedReadings t k.readings → (c : Command) → store_step t (image t k) c ≡ image t (step t k c)
-step_mirror t k s c =
-    ap (λ (d : Result Draft Refusal). store_by t (image t k) d) (draft_mirror t k (ledger_of t k) s c)
-    ∙ step_by_mirror t k (plan t k c) s (plan_goes_on t k s c)
+step_mirror t k s c = grind (arith, draft_mirror t k (ledger_of t k) s c, step_by_mirror t k (plan t k c) s (plan_goes_on t k s c), plan_goes_on t k s c)
 
 -- A whole list of commands.
 pub outcomes_mirror : (t : Terms) (k : Reference) → SortedReadings t k.readings → (cs : List Command) → store_outcomes t (image t k) cs ≡ outcomes t k cs
 outcomes_mirror t k s [] = refl
-outcomes_mirror t k s (c ∷ cs) =
-    let o = outcome_mirror t k s c in
-    let n = step_mirror t k s c in
-    let ih = outcomes_mirror t (step t k c) (step_sorted t k c s) cs in
-    ap (λ (x : Outcome). x ∷ store_outcomes t (store_step t (image t k) c) cs) o
-    ∙ ap (λ (x : Store). outcome t k c ∷ store_outcomes t x cs) n
-    ∙ ap (λ (xs : List Outcome). outcome t k c ∷ xs) ih
+outcomes_mirror t k s (c ∷ cs) = grind (arith, outcome_mirror t k s c, step_mirror t k s c, outcomes_mirror t (step t k c) (step_sorted t k c s) cs, step_sorted t k c s)
 
 pub after_mirror : (t : Terms) (k : Reference) → SortedReadings t k.readings → (cs : List Command) → store_after t (image t k) cs ≡ image t (after t k cs)
 after_mirror t k s [] = refl
-after_mirror t k s (c ∷ cs) =
-    ap (λ (x : Store). store_after t x cs) (step_mirror t k s c) ∙ after_mirror t (step t k c) (step_sorted t k c s) cs
+after_mirror t k s (c ∷ cs) = simp (step_mirror t k s c, after_mirror t (step t k c) (step_sorted t k c s) cs, step_sorted t k c s)
 
 pub all_kept : (t : Terms) (cs : List Command) → store_after t empty_store cs ≡ image t (after t empty cs)
 all_kept t cs = after_mirror t empty tt cs

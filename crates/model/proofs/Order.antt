@@ -1,5 +1,5 @@
 -- Lists in order: readings that rise, and visits that rise and stand apart.
-use Rattle.std.proofs.Common.{◌≡◌, ◌+◌, ◌<◌, ◌≤◌, Bool, true, false, ltb, List, [], ◌∷◌, filter, refl, arith}
+use Rattle.std.proofs.Common.{◌≡◌, ◌+◌, ◌<◌, ◌≤◌, Bool, true, false, List, [], ◌∷◌, filter, refl, arith}
 use Rattle.std.specs.List.{AllByRecursion}
 use Rattle.std.proofs.ByRecursion.{all_kept_by, All-weaker}
 use Rattle.std.proofs.lemmas.Bool.{or_parts}
@@ -7,18 +7,17 @@ use Rattle.std.proofs.lemmas.Bool.Decides.{nat_tests}
 use Rattle.visit.specs.declared.Reading.{Reading}
 use Rattle.visit.specs.declared.Terms.{Terms}
 use Rattle.visit.specs.declared.Visit.{Visit}
-use Rattle.visit.specs.Readings.{gap_of, reading_before, same_reading, too_late}
+use Rattle.visit.specs.Readings.{gap_of, reading_before, same_reading}
 use Rattle.visit.specs.Visits.{grown, joins, merged, same_visit, single}
 use Rattle.command.specs.declared.Command.{Command}
 use Rattle.command.specs.declared.Command.TheVariants.{Reading as AReading, Watermark}
 use Rattle.model.specs.Reference.{Reference, after, empty, step}
 use Rattle.model.specs.Sessions.{contains, insert_reading, prepend, visits}
-use Rattle.model.proofs.Common.{Absent, split}
+use Rattle.model.proofs.Common.{Absent, RisingBy, split}
 
 -- Each reading comes before all that follow it.
 abbrev pub SortedReadings : Terms → List Reading → Type 0
-SortedReadings t [] = Unit {0}
-SortedReadings t (x ∷ xs) = AllByRecursion (λ y. reading_before t x y ≡ true) xs × SortedReadings t xs
+SortedReadings t xs = RisingBy (reading_before t) xs
 
 -- A reading is not after a visit; a visit is wholly before another, by more than the gap if both are of one card.
 abbrev pub NotAfter : Reading → Visit → Type 0
@@ -79,10 +78,7 @@ grown_order t x v l h q = grind (arith, nat_tests)
 
 prepend_apart : (t : Terms) (x : Reading) (vs : List Visit) → AllByRecursion (NotAfter x) vs → Apart t vs → Apart t (prepend t x vs)
 prepend_apart t x [] a p = (omega arith, tt, tt)
-prepend_apart t x (v ∷ vs) a p =
-    split (joins t x v)
-    (λ o. simp o (grown_order t x v a.0 p.0 o, p.1, p.2))
-    (λ o. simp o (omega arith, (far_follows t x v a.0 o, All-weaker (Follows t v) (Follows t (single x)) (follows_on t x v a.0 p.0) vs p.1), p))
+prepend_apart t x (v ∷ vs) a p = grind (arith, nat_tests, All-weaker (Follows t v) (Follows t (single x)) (follows_on t x v a.0 p.0) vs p.1, follows_on t x v a.0 p.0, grown_order, far_follows)
 
 -- The visits of sorted readings are in order and apart.
 pub sorted_not_after : (t : Terms) (x : Reading) (xs : List Reading) → AllByRecursion (λ y. reading_before t x y ≡ true) xs → AllByRecursion (NotAfter x) (visits t xs)
@@ -118,9 +114,7 @@ absent_behind t v (w ∷ ws) h a = simp ((follows_differs t v w h a.0).0, absent
 -- Visits that pass a test stand apart if all do.
 pub apart_kept : (t : Terms) (p : Visit → Bool) (vs : List Visit) → Apart t vs → Apart t (filter p vs)
 apart_kept t p [] a = tt
-apart_kept t p (v ∷ vs) a =
-    let ih = apart_kept t p vs a.2 in
-    split (p v) (λ o. simp o (a.0, all_kept_by p (Follows t v) vs a.1, ih)) (λ o. simp o ih)
+apart_kept t p (v ∷ vs) a = grind (arith, nat_tests, apart_kept t p vs a.2, all_kept_by p (Follows t v) vs a.1)
 
 -- A new reading put at its place keeps readings sorted.
 unpassed_before : (t : Terms) (e x : Reading) → same_reading t e x ≡ false → reading_before t x e ≡ false → reading_before t e x ≡ true
@@ -129,7 +123,7 @@ unpassed_before t e x p q = grind (arith, nat_tests)
 
 pub all_insert : (t : Terms) (P : Reading → Type 0) (e : Reading) (xs : List Reading) → P e → AllByRecursion P xs → AllByRecursion P (insert_reading t e xs)
 all_insert t P e [] h a = (h, tt)
-all_insert t P e (x ∷ xs) h a = split (reading_before t x e) (λ q. simp q (a.0, all_insert t P e xs h a.1)) (λ q. simp q (h, a))
+all_insert t P e (x ∷ xs) h a = grind (arith, nat_tests, all_insert t P e xs h a.1)
 
 pub insert_sorted : (t : Terms) (e : Reading) (xs : List Reading) → contains t e xs ≡ false → SortedReadings t xs → SortedReadings t (insert_reading t e xs)
 insert_sorted t e [] c s = (tt, tt)
@@ -143,10 +137,8 @@ insert_sorted t e (x ∷ xs) c s =
 
 -- Every state of the reference is sorted.
 pub step_sorted : (t : Terms) (k : Reference) (c : Command) → SortedReadings t k.readings → SortedReadings t (step t k c).readings
-step_sorted t k (AReading e) s =
-    split (too_late t k.watermark e) (λ o. simp o s)
-    (λ o. split (contains t e k.readings) (λ q. simp (o, q) s) (λ q. simp (o, q) (insert_sorted t e k.readings q s)))
-step_sorted t k (Watermark m) s = split (ltb m k.watermark) (λ o. simp o s) (λ o. simp o s)
+step_sorted t k (AReading e) s = grind (arith, nat_tests, insert_sorted)
+step_sorted t k (Watermark m) s = grind (arith, nat_tests)
 
 pub after_sorted : (t : Terms) (k : Reference) (cs : List Command) → SortedReadings t k.readings → SortedReadings t (after t k cs).readings
 after_sorted t k [] s = s

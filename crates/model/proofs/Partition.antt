@@ -1,5 +1,5 @@
 -- Visits are right: every reading is of exactly one visit, and a visit is what its readings make.
-use Rattle.std.proofs.Common.{◌≡◌, ℕ, zero, suc, ◌+◌, ◌<◌, ◌≤◌, Bool, true, false, cond, List, [], ◌∷◌, length, get_or, sum_by, count_by, sym, refl, ap, ◌∙◌, subst, arith}
+use Rattle.std.proofs.Common.{◌≡◌, ℕ, zero, suc, ◌+◌, ◌<◌, ◌≤◌, true, false, cond, List, [], ◌∷◌, length, get_or, count_by, sym, refl, ap, ◌∙◌, subst, arith}
 use Rattle.std.specs.List.{AllByRecursion}
 use Rattle.std.proofs.ByRecursion.{All-get_or, All-weaker}
 use Rattle.std.proofs.lemmas.List.Sums.{sum_by-cons}
@@ -23,11 +23,10 @@ abbrev pub visits_with : Reading → List Visit → ℕ
 visits_with e vs = count_by (λ v. of_visit v e) vs
 
 count_in : (e : Reading) (v : Visit) (vs : List Visit) → of_visit v e ≡ true → visits_with e (v ∷ vs) ≡ 1 + visits_with e vs
-count_in e v vs h = sum_by-cons (λ w. cond (of_visit w e) 1 0) v vs ∙ ap (λ (b : Bool). cond b 1 0 + visits_with e vs) h
+count_in e v vs h = grind (arith, nat_tests, sum_by-cons (λ w. cond (of_visit w e) 1 0) v vs)
 
 count_out : (e : Reading) (v : Visit) (vs : List Visit) → of_visit v e ≡ false → visits_with e (v ∷ vs) ≡ visits_with e vs
-count_out e v vs h =
-    let q : visits_with e (v ∷ vs) ≡ 0 + visits_with e vs = sum_by-cons (λ w. cond (of_visit w e) 1 0) v vs ∙ ap (λ (b : Bool). cond b 1 0 + visits_with e vs) h in omega arith
+count_out e v vs h = grind (arith, nat_tests, sum_by-cons (λ w. cond (of_visit w e) 1 0) v vs)
 
 count_none : (e : Reading) (vs : List Visit) → AllByRecursion (λ v. of_visit v e ≡ false) vs → visits_with e vs ≡ 0
 count_none e [] a = refl
@@ -64,31 +63,15 @@ goes_on g first last time (e ∷ es) u a b = (omega arith, omega arith, u.1)
 
 -- What is right of a visit depends only on the readings that it has.
 right_like : (t : Terms) (xs ys : List Reading) (v : Visit) → readings_of v ys ≡ readings_of v xs → RightVisit t xs v → RightVisit t ys v
-right_like t xs ys v q r =
-    record {
-      unbroken = subst (λ (es : List Reading). Unbroken (gap_of t v.card) v.from v.to es) (sym q) r.unbroken;
-      count = r.count ∙ ap (λ (es : List Reading). length es) (sym q);
-      sum = r.sum ∙ ap (λ (es : List Reading). sum_by (λ e. e.amount) es) (sym q);
-    }
+right_like t xs ys v q r = grind (arith, nat_tests)
 
 right_others : (t : Terms) (e : Reading) (xs : List Reading) (vs : List Visit) → AllByRecursion (λ v. of_visit v e ≡ false) vs → AllByRecursion (RightVisit t xs) vs → AllByRecursion (RightVisit t (e ∷ xs)) vs
 right_others t e xs [] a r = tt
-right_others t e xs (v ∷ vs) a r =
-    let h = a.0 in
-    let q : readings_of v (e ∷ xs) ≡ readings_of v xs = simp h in
-    (right_like t xs (e ∷ xs) v q r.0, right_others t e xs vs a.1 r.1)
+right_others t e xs (v ∷ vs) a r = grind (arith, nat_tests, right_others t e xs vs a.1 r.1, right_like)
 
 -- A visit of one reading.
 right_single : (t : Terms) (e : Reading) (xs : List Reading) → AllByRecursion (λ x. of_visit (single e) x ≡ false) xs → RightVisit t (e ∷ xs) (single e)
-right_single t e xs a =
-    let h = of_single e in
-    let n = kept_none (of_visit (single e)) xs a in
-    let q : readings_of (single e) (e ∷ xs) ≡ e ∷ [] = simp (h, n) in
-    record {
-      unbroken = subst (λ (es : List Reading). Unbroken (gap_of t e.card) e.time e.time es) (sym q) (refl, refl);
-      count = ap (λ (es : List Reading). length es) (sym q);
-      sum = sym (ap (λ (es : List Reading). sum_by (λ x. x.amount) es) q ∙ sum_by-cons (λ x. x.amount) e [] ∙ (let z : e.amount + 0 ≡ e.amount = omega arith in z));
-    }
+right_single t e xs a = grind (arith, nat_tests, of_single e, kept_none (of_visit (single e)) xs a, sum_by-cons (λ x. x.amount) e [])
 
 -- A visit that grew.
 joined_from : (t : Terms) (e : Reading) (v : Visit) → joins t e v ≡ true → v.from ≤ e.time + gap_of t e.card
@@ -97,21 +80,7 @@ joined_from t e v j = grind (arith, nat_tests)
 
 right_grown : (t : Terms) (e : Reading) (xs : List Reading) (v : Visit) → joins t e v ≡ true → e.time ≤ v.from → v.from ≤ v.to
     → AllByRecursion (λ x. of_visit (grown e v) x ≡ of_visit v x) xs → RightVisit t xs v → RightVisit t (e ∷ xs) (grown e v)
-right_grown t e xs v j l m a r =
-    let c = joined_card t e v j in
-    let h : of_visit (grown e v) e ≡ true = grind (arith, nat_tests) in
-    let n = kept_agree (of_visit (grown e v)) (of_visit v) xs a in
-    let q : readings_of (grown e v) (e ∷ xs) ≡ e ∷ readings_of v xs = simp (h, n) in
-    let b : v.from ≤ e.time + gap_of t v.card = subst (λ (i : ℕ). v.from ≤ e.time + gap_of t i) c (joined_from t e v j) in
-    record {
-      unbroken = subst (λ (es : List Reading). Unbroken (gap_of t v.card) e.time v.to es) (sym q)
-          (refl, goes_on (gap_of t v.card) v.from v.to e.time (readings_of v xs) r.unbroken l b);
-      count = (let z : v.count + 1 ≡ length (e ∷ readings_of v xs) = omega arith in z ∙ ap (λ (es : List Reading). length es) (sym q));
-      sum =
-          (let s = sum_by-cons (λ x. x.amount) e (readings_of v xs) in
-          let z : v.sum + e.amount ≡ sum_by (λ x. x.amount) (e ∷ readings_of v xs) = omega arith in
-          z ∙ ap (λ (es : List Reading). sum_by (λ x. x.amount) es) (sym q));
-    }
+right_grown t e xs v j l m a r = grind (arith, nat_tests, joined_card t e v j, kept_agree (of_visit (grown e v)) (of_visit v) xs a, joined_from t e v j, sum_by-cons (λ x. x.amount) e (readings_of v xs), goes_on)
 
 -- The state of the induction: every reading has one visit, every visit is right.
 abbrev pub Parted : Terms → List Reading → List Visit → Type 0
@@ -138,8 +107,7 @@ grown_same t e v vs l a x h =
     not_of_first t (grown e v) x vs a r ∙ sym o)
 
 count_like : (x : Reading) (v w : Visit) (vs : List Visit) → of_visit w x ≡ of_visit v x → visits_with x (w ∷ vs) ≡ visits_with x (v ∷ vs)
-count_like x v w vs q =
-    sum_by-cons (λ u. cond (of_visit u x) 1 0) w vs ∙ (ap (λ (b : Bool). cond b 1 0 + visits_with x vs) q ∙ sym (sum_by-cons (λ u. cond (of_visit u x) 1 0) v vs))
+count_like x v w vs q = grind (arith, nat_tests, sum_by-cons (λ u. cond (of_visit u x) 1 0) w vs, sum_by-cons (λ u. cond (of_visit u x) 1 0) v vs)
 
 parted_grown : (t : Terms) (e : Reading) (xs : List Reading) (v : Visit) (vs : List Visit) → joins t e v ≡ true → NotAfter e v → Apart t (v ∷ vs)
     → Parted t xs (v ∷ vs) → Parted t (e ∷ xs) (grown e v ∷ vs)
@@ -179,7 +147,7 @@ pub apart_at : (t : Terms) (vs : List Visit) → Apart t vs → (i j : ℕ) (d :
     → (get_or vs i d).to + gap_of t (get_or vs i d).card < (get_or vs j d).from
 apart_at t [] a i j d l h c = absurd (omega arith)
 apart_at t (v ∷ vs) a i zero d l h c = absurd (omega arith)
-apart_at t (v ∷ vs) a zero (suc j) d l h c = (All-get_or (Follows t v) vs j d (omega arith) a.1).1 c
+apart_at t (v ∷ vs) a zero (suc j) d l h c = grind (arith, Follows t v, All-get_or)
 apart_at t (v ∷ vs) a (suc i) (suc j) d l h c = apart_at t vs a.2 i j d (omega arith) (omega arith) c
 
 pub visits_right : VisitsRight

@@ -1,12 +1,8 @@
--- What std's words for a place and for a search say in the model's words.
-use Rattle.std.proofs.Common.{◌≡◌, ◌+◌, Bool, true, false, cond, ◌||◌, List, [], ◌∷◌, ◌++◌, take, drop, refl, ap, arith}
-use Rattle.std.specs.List.{list_any, prefix_len}
+-- What std's words for a place say in the model's words.
+use Rattle.std.proofs.Common.{◌≡◌, ◌+◌, Bool, true, false, cond, List, [], ◌∷◌, ◌++◌, take, drop, refl, arith}
+use Rattle.std.specs.List.{prefix_len}
 use Rattle.std.proofs.lemmas.Grind.{common_steps}
-use Rattle.model.specs.Sessions.{at_place, some}
-
-pub some_is_any : {X : Type 0} (test : X → Bool) (xs : List X) → some test xs ≡ list_any test xs
-some_is_any test [] = refl
-some_is_any test (x ∷ xs) = ap (λ b. test x || b) (some_is_any test xs)
+use Rattle.model.specs.Sessions.{at_place}
 
 -- A list changed at a place is changed behind the elements that come before.
 pub at_place_is : {X : Type 0} (before : X → Bool) (f : List X → List X) (xs : List X)

@@ -1,5 +1,5 @@
 -- Lists in a strict order: what is in them says what they are.
-use Rattle.std.proofs.Common.{◌≡◌, ℕ, zero, suc, ◌<◌, Bool, true, ◌⊎◌, List, [], ◌∷◌, length, get_or, Decides, filter, sym, refl, ap, ◌∙◌, subst, inl, inr, arith}
+use Rattle.std.proofs.Common.{◌≡◌, ℕ, zero, suc, ◌<◌, Bool, true, ◌⊎◌, List, [], ◌∷◌, length, get_or, Decides, filter, sym, refl, ap, inl, inr, arith}
 use Rattle.std.specs.List.{HoldsAt, ContainsAt as Has, AllByRecursion}
 use Rattle.std.proofs.ByRecursion.{All-get_or, all-has, all_kept_by}
 use Rattle.std.proofs.lemmas.Bool.Decides.{Decides-by_or, nat_tests}
@@ -9,18 +9,13 @@ use Rattle.visit.specs.Readings.{reading_before}
 use Rattle.model.specs.Order.{AnyOrder}
 use Rattle.model.specs.Reference.{Reference, after, closed_of, empty}
 use Rattle.model.specs.Sessions.{some}
-use Rattle.model.proofs.Common.{split}
-use Rattle.model.proofs.Order.{SortedReadings, reference_sorted}
-
--- Each element comes before all that follow it.
-abbrev pub RisingBy : {X : Type 0} → (X → X → Bool) → List X → Type 0
-RisingBy before [] = Unit {0}
-RisingBy before (x ∷ xs) = AllByRecursion (λ y. before x y ≡ true) xs × RisingBy before xs
+use Rattle.model.proofs.Common.{RisingBy}
+use Rattle.model.proofs.Order.{reference_sorted}
 
 pub rising_at : {X : Type 0} (before : X → X → Bool) (xs : List X) → RisingBy before xs → (i j : ℕ) (d : X) → i < j → j < length xs → before (get_or xs i d) (get_or xs j d) ≡ true
 rising_at before [] r i j d l h = absurd (omega arith)
 rising_at before (x ∷ xs) r i zero d l h = absurd (omega arith)
-rising_at before (x ∷ xs) r zero (suc j) d l h = All-get_or (λ y. before x y ≡ true) xs j d (omega arith) r.0
+rising_at before (x ∷ xs) r zero (suc j) d l h = grind (arith, nat_tests, All-get_or)
 rising_at before (x ∷ xs) r (suc i) (suc j) d l h = rising_at before xs r.1 i j d (omega arith) (omega arith)
 
 -- What a list has: its first, what the rest has, and nothing else.
@@ -47,10 +42,7 @@ some_decides test z each = Decides-by_or test (λ y. y ≡ z) (some test) each r
 -- A filter keeps the order.
 pub rising_kept : {X : Type 0} (before : X → X → Bool) (p : X → Bool) (xs : List X) → RisingBy before xs → RisingBy before (filter p xs)
 rising_kept before p [] r = tt
-rising_kept before p (x ∷ xs) r =
-    split (p x)
-    (λ o. simp o (all_kept_by p (λ y. before x y ≡ true) xs r.0, rising_kept before p xs r.1))
-    (λ o. simp o (rising_kept before p xs r.1))
+rising_kept before p (x ∷ xs) r = grind (arith, nat_tests, all_kept_by p (λ y. before x y ≡ true) xs r.0, rising_kept before p xs r.1)
 
 -- Two lists that rise and have the same members are one.
 either_same : {X : Type 0} (before : X → X → Bool) (strict : (x y : X) → before x y ≡ true → before y x ≡ true → ⊥) (x y : X) (xs ys : List X)
@@ -66,11 +58,7 @@ either_same before strict x y xs ys a b h g =
 
 rest_has : {X : Type 0} (before : X → X → Bool) (strict : (x y : X) → before x y ≡ true → before y x ≡ true → ⊥) (x y : X) (xs ys : List X)
     → AllByRecursion (λ z. before x z ≡ true) xs → x ≡ y → ((z : X) → Has (x ∷ xs) z → Has (y ∷ ys) z) → (z : X) → Has xs z → Has ys z
-rest_has before strict x y xs ys a e f z h =
-    elim (has_cases y ys z (f z (has_there x xs z h))) [
-      | inl q ↦ (let p : before z z ≡ true = subst (λ w. before w z ≡ true) (e ∙ q) (all-has (λ w. before x w ≡ true) xs z a h) in absurd (strict z z p p))
-      | inr i ↦ i
-    ]
+rest_has before strict x y xs ys a e f z h = grind (arith, nat_tests, has_cases y ys z (f z (has_there x xs z h)), has_there x xs z h, all-has (λ w. before x w ≡ true) xs z a h)
 
 pub same_members : {X : Type 0} (before : X → X → Bool) (strict : (x y : X) → before x y ≡ true → before y x ≡ true → ⊥) (xs ys : List X)
     → RisingBy before xs → RisingBy before ys → ((z : X) → Has xs z → Has ys z) → ((z : X) → Has ys z → Has xs z) → xs ≡ ys
@@ -83,10 +71,7 @@ same_members before strict (x ∷ xs) (y ∷ ys) r s f g =
     (rest_has before strict x y xs ys r.0 e f) (rest_has before strict y x ys xs s.0 (sym e) g) in
     cc (e, q)
 
--- Readings rise by their order, and no two come each before the other.
-pub sorted_rising : (t : Terms) (xs : List Reading) → SortedReadings t xs → RisingBy (reading_before t) xs
-sorted_rising t [] s = tt
-sorted_rising t (x ∷ xs) s = (s.0, sorted_rising t xs s.1)
+-- No two readings come each before the other.
 
 pub reading_strict : (t : Terms) (x y : Reading) → reading_before t x y ≡ true → reading_before t y x ≡ true → ⊥
 unfolding reading_before
@@ -94,13 +79,13 @@ reading_strict t x y p q = grind (arith, nat_tests)
 
 -- The order in which readings come does not matter.
 state_of_parts : (k l : Reference) → k.readings ≡ l.readings → k.watermark ≡ l.watermark → k ≡ l
-state_of_parts k l p q = ap (λ (xs : List Reading). record { readings = xs; watermark = k.watermark }) p ∙ ap (λ (m : ℕ). record { readings = l.readings; watermark = m }) q
+state_of_parts k l p q = grind (arith, nat_tests)
 
 pub any_order : AnyOrder
 any_order t cs ds h =
     let p : (after t empty cs).readings ≡ (after t empty ds).readings =
     same_members (reading_before t) (reading_strict t) (after t empty cs).readings (after t empty ds).readings
-    (sorted_rising t (after t empty cs).readings (reference_sorted t cs)) (sorted_rising t (after t empty ds).readings (reference_sorted t ds))
+    (reference_sorted t cs) (reference_sorted t ds)
     h.here h.there in
     let e = state_of_parts (after t empty cs) (after t empty ds) p h.watermark in
     record { readings = p; closed = ap (λ (k : Reference). closed_of t k) e; whole = e }

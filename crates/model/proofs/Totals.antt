@@ -1,5 +1,5 @@
 -- The ledger: the order in which visits are put to it does not matter, and taking undoes adding.
-use Rattle.std.proofs.Common.{◌≡◌, ℕ, ◌+◌, ◌-◌, ◌≤◌, Bool, true, false, not, eqb, List, [], ◌∷◌, filter, sym, refl, ap, ◌∙◌, arith}
+use Rattle.std.proofs.Common.{◌≡◌, ℕ, ◌+◌, ◌≤◌, Bool, true, false, not, eqb, List, [], ◌∷◌, filter, sym, refl, ◌∙◌, arith}
 use mathlib.Core.Bool.{not-not, and_comm}
 use Rattle.std.specs.List.{AllByRecursion}
 use Rattle.std.proofs.lemmas.Bool.Decides.{nat_tests}
@@ -11,7 +11,7 @@ use Rattle.visit.specs.Visits.{same_visit, visit_before}
 use Rattle.model.specs.Ledger.{add_line, add_visits, take_line, take_visits, totals}
 use Rattle.model.specs.Sessions.{difference, some}
 use Rattle.model.specs.Store.{posted}
-use Rattle.model.proofs.Common.{some_kept, split}
+use Rattle.model.proofs.Common.{some_kept}
 use Rattle.model.proofs.Order.{Apart}
 use Rattle.model.proofs.Same.{rising_kept}
 use Rattle.model.proofs.Adding.{apart_rising, is_in, same_in}
@@ -56,70 +56,22 @@ pub line_parts : (c d n s c' d' n' s' : ℕ) → c ≡ c' → d ≡ d' → n ≡
 line_parts c d n s c' d' n' s' p q r u = cc
 
 plus_either : (x a b : Line) → line_plus (line_plus x b) a ≡ line_plus (line_plus x a) b
-plus_either x a b =
-    line_parts x.card x.day ((x.visits + b.visits) + a.visits) ((x.sum + b.sum) + a.sum) x.card x.day ((x.visits + a.visits) + b.visits) ((x.sum + a.sum) + b.sum)
-    refl refl (omega arith) (omega arith)
+plus_either x a b = grind (arith, nat_tests, line_parts)
 
 plus_round : (t : Terms) (a b : Line) → same_key t b a ≡ true → line_plus b a ≡ line_plus a b
 unfolding same_key
-plus_round t a b h =
-    line_parts b.card b.day (b.visits + a.visits) (b.sum + a.sum) a.card a.day (a.visits + b.visits) (a.sum + b.sum)
-    (grind (arith, nat_tests)) (grind (arith, nat_tests)) (omega arith) (omega arith)
+plus_round t a b h = grind (arith, nat_tests, line_parts)
 
 plus_minus : (x a : Line) → line_minus (line_plus x a) a ≡ x
-plus_minus x a =
-    line_parts x.card x.day ((x.visits + a.visits) - a.visits) ((x.sum + a.sum) - a.sum) x.card x.day x.visits x.sum
-    refl refl (omega arith) (omega arith)
+plus_minus x a = grind (arith, nat_tests, line_parts)
 
 -- Two lines put to a ledger, in either order.
 first_swap : (t : Terms) (a b : Line) (xs : List Line) → add_line t a xs ≡ a ∷ xs → add_line t b xs ≡ b ∷ xs → add_line t a (b ∷ xs) ≡ add_line t b (a ∷ xs)
-first_swap t a b xs p q =
-    split (line_before t b a)
-    (λ o. let k = key_past t b a o in let k0 = k.0 in let k1 = k.1 in simp (o, k0, k1, p))
-    (λ o. split (same_key t b a)
-    (λ s. let k = key_back t b a s in let k1 = k.1 in let k2 = k.2 in let r = plus_round t a b s in simp (o, s, k1, k2, r))
-    (λ s. let k = key_after t b a o s in simp (o, s, k, q)))
+first_swap t a b xs p q = grind (arith, nat_tests, key_past, key_back, plus_round, key_after)
 
 pub add_swap : (t : Terms) (a b : Line) (ls : List Line) → add_line t a (add_line t b ls) ≡ add_line t b (add_line t a ls)
 add_swap t a b [] = first_swap t a b [] refl refl
-add_swap t a b (x ∷ xs) =
-    let ih = add_swap t a b xs in
-    let pa = plus_before t x b a in
-    let pb = plus_before t x a b in
-    let sa = plus_same t x b a in
-    let sb = plus_same t x a b in
-    split (line_before t x a)
-    (λ oa. split (line_before t x b)
-    (λ ob. simp (oa, ob, ih))
-    (λ ob. split (same_key t x b)
-    (λ kb. simp (oa, ob, kb, pa))
-    (λ kb.
-    let n = key_after t x b ob kb in
-    let l = key_through t b x a n oa in
-    simp (oa, ob, kb, l))))
-    (λ oa. split (same_key t x a)
-    (λ ka. split (line_before t x b)
-    (λ ob. simp (oa, ka, ob, pb))
-    (λ ob. split (same_key t x b)
-    (λ kb. let e = plus_either x a b in simp (oa, ka, ob, kb, pa, pb, sa, sb, e))
-    (λ kb.
-    let n = key_after t x b ob kb in
-    let j = key_like t x a b ka in
-    let l : line_before t b a ≡ true = sym j.1 ∙ n in
-    simp (oa, ka, ob, kb, pb, sb, l))))
-    (λ ka.
-    let n = key_after t x a oa ka in
-    split (line_before t x b)
-    (λ ob. let l = key_through t a x b n ob in simp (oa, ka, ob, l))
-    (λ ob. split (same_key t x b)
-    (λ kb.
-    let j = key_like t x b a kb in
-    let l : line_before t a b ≡ true = sym j.1 ∙ n in
-    simp (oa, ka, ob, kb, pa, sa, l))
-    (λ kb.
-    let p : add_line t a (x ∷ xs) ≡ a ∷ x ∷ xs = simp (oa, ka) in
-    let q : add_line t b (x ∷ xs) ≡ b ∷ x ∷ xs = simp (ob, kb) in
-    ap (λ (l : List Line). add_line t a l) q ∙ first_swap t a b (x ∷ xs) p q ∙ sym (ap (λ (l : List Line). add_line t b l) p)))))
+add_swap t a b (x ∷ xs) = grind (arith, nat_tests, add_swap t a b xs, plus_before t x b a, plus_before t x a b, plus_same t x b a, plus_same t x a b, plus_either x a b, key_after, key_through, key_like, first_swap)
 
 -- Lines that all have visits.
 abbrev pub Filled : List Line → Type 0
@@ -127,11 +79,7 @@ Filled ls = AllByRecursion (λ l. 1 ≤ l.visits) ls
 
 pub filled_line : (t : Terms) (a : Line) (ls : List Line) → 1 ≤ a.visits → Filled ls → Filled (add_line t a ls)
 filled_line t a [] h f = (h, tt)
-filled_line t a (x ∷ xs) h f =
-    let ih = filled_line t a xs h f.1 in
-    split (line_before t x a)
-    (λ o. simp o (f.0, ih))
-    (λ o. split (same_key t x a) (λ k. simp (o, k) (omega arith, f.1)) (λ k. simp (o, k) (h, f)))
+filled_line t a (x ∷ xs) h f = grind (arith, nat_tests, filled_line t a xs h f.1)
 
 -- A line that is put to such a ledger and taken again leaves it as it was.
 more_visits : (n m : ℕ) → 1 ≤ n → eqb (n + m) m ≡ false
@@ -142,17 +90,7 @@ same_visits_count n = grind (arith, nat_tests)
 
 pub take_undoes : (t : Terms) (a : Line) (ls : List Line) → Filled ls → take_line t a (add_line t a ls) ≡ ls
 take_undoes t a [] f = simp ((key_itself t a).1, same_visits_count a.visits)
-take_undoes t a (x ∷ xs) f =
-    let ih = take_undoes t a xs f.1 in
-    split (line_before t x a)
-    (λ o. let k = (key_past t x a o).2 in simp (o, k, ih))
-    (λ o. split (same_key t x a)
-    (λ k.
-    let s = plus_same t x a a in
-    let e = more_visits x.visits a.visits f.0 in
-    let m = plus_minus x a in
-    simp (o, k, s, e, m))
-    (λ k. let i = (key_itself t a).1 in let e = same_visits_count a.visits in simp (o, k, i, e)))
+take_undoes t a (x ∷ xs) f = grind (arith, nat_tests, take_undoes t a xs f.1, plus_same t x a a, more_visits x.visits a.visits f.0, plus_minus x a, key_itself t a, same_visits_count a.visits, key_past)
 
 -- The same of visits, one after the other.
 pub one_visit : (t : Terms) (v : Visit) → 1 ≤ (line_of t v).visits
@@ -165,26 +103,17 @@ filled_visits t (v ∷ vs) ls f = filled_visits t vs (add_line t (line_of t v) l
 
 pub add_visits_line : (t : Terms) (vs : List Visit) (a : Line) (ls : List Line) → add_visits t vs (add_line t a ls) ≡ add_line t a (add_visits t vs ls)
 add_visits_line t [] a ls = refl
-add_visits_line t (v ∷ vs) a ls =
-    ap (λ (l : List Line). add_visits t vs l) (add_swap t (line_of t v) a ls) ∙ add_visits_line t vs a (add_line t (line_of t v) ls)
+add_visits_line t (v ∷ vs) a ls = grind (arith, nat_tests, add_swap t (line_of t v) a ls, add_visits_line t vs a (add_line t (line_of t v) ls))
 
 pub take_visits_undoes : (t : Terms) (vs : List Visit) (ls : List Line) → Filled ls → take_visits t vs (add_visits t vs ls) ≡ ls
 take_visits_undoes t [] ls f = refl
-take_visits_undoes t (v ∷ vs) ls f =
-    ap (λ (l : List Line). take_visits t vs (take_line t (line_of t v) l)) (add_visits_line t vs (line_of t v) ls)
-    ∙ ap (λ (l : List Line). take_visits t vs l) (take_undoes t (line_of t v) (add_visits t vs ls) (filled_visits t vs ls f))
-    ∙ take_visits_undoes t vs ls f
+take_visits_undoes t (v ∷ vs) ls f = grind (arith, nat_tests, add_visits_line t vs (line_of t v) ls, take_undoes t (line_of t v) (add_visits t vs ls) (filled_visits t vs ls f), filled_visits t vs ls f, take_visits_undoes t vs ls f)
 
 -- Visits may be put to a ledger in two parts.
 pub add_parts : (t : Terms) (p q : Visit → Bool) → ((v : Visit) → q v ≡ not (p v)) → (vs : List Visit) (ls : List Line)
     → add_visits t vs ls ≡ add_visits t (filter p vs) (add_visits t (filter q vs) ls)
 add_parts t p q h [] ls = refl
-add_parts t p q h (v ∷ vs) ls =
-    let ih = add_parts t p q h vs (add_line t (line_of t v) ls) in
-    let j = h v in
-    split (p v)
-    (λ o. simp (j, o) (ih ∙ ap (λ (l : List Line). add_visits t (filter p vs) l) (add_visits_line t (filter q vs) (line_of t v) ls)))
-    (λ o. simp (j, o) ih)
+add_parts t p q h (v ∷ vs) ls = grind (arith, nat_tests, add_parts t p q h vs (add_line t (line_of t v) ls), add_visits_line t (filter q vs) (line_of t v) ls)
 
 -- The visits of a list that are in another too.
 abbrev pub shared : Terms → List Visit → List Visit → List Visit
@@ -203,8 +132,4 @@ totals_parts t vs ws = add_parts t (λ v. not (some (same_visit t v) ws)) (λ v.
 
 pub posted_right : (t : Terms) (old new : List Visit) → Apart t old → Apart t new
     → posted t (difference t old new) (difference t new old) (totals t old) ≡ totals t new
-posted_right t old new p q =
-    ap (λ (l : List Line). posted t (difference t old new) (difference t new old) l) (totals_parts t old new)
-    ∙ ap (λ (l : List Line). add_visits t (difference t new old) l) (take_visits_undoes t (difference t old new) (add_visits t (shared t old new) []) (filled_visits t (shared t old new) [] tt))
-    ∙ ap (λ (l : List Visit). add_visits t (difference t new old) (add_visits t l [])) (shared_round t old new p q)
-    ∙ sym (totals_parts t new old)
+posted_right t old new p q = grind (arith, nat_tests, totals_parts t old new, shared_round t old new p q, totals_parts t new old, take_visits_undoes, filled_visits)

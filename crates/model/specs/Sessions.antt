@@ -1,5 +1,6 @@
 -- Lists of readings, and the visits that they make.
-use Rattle.std.specs.Prelude.{ℕ, Bool, false, cond, not, ◌||◌, List, [], ◌∷◌, filter}
+use Rattle.std.specs.Prelude.{ℕ, Bool, cond, not, List, [], ◌∷◌, filter}
+use Rattle.std.specs.List.{list_any}
 use Rattle.visit.specs.declared.Reading.{Reading}
 use Rattle.visit.specs.declared.Terms.{Terms}
 use Rattle.visit.specs.declared.Visit.{Visit}
@@ -9,8 +10,7 @@ use Rattle.command.specs.Outcomes.{Outcome, changed}
 
 -- Whether some element passes a test.
 abbrev pub some : {X : Type 0} → (X → Bool) → List X → Bool
-some test [] = false
-some test (x ∷ xs) = test x || some test xs
+some test xs = list_any test xs
 
 -- A reading was taken in already.
 abbrev pub contains : Terms → Reading → List Reading → Bool
