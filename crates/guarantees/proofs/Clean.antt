@@ -1,7 +1,6 @@
 -- Rows that hold a store and nothing else: what is read from them, and that commands leave such rows.
-use Rattle.std.proofs.Common.{◌≡◌, ℕ, ◌+◌, ◌-◌, ◌*◌, ◌≤◌, max, List, [], ◌++◌, length, drop, replicate, sym, refl, ap, ◌∙◌, arith}
-use native.Mathlib.Nat.{sub-zero}
-use Rattle.std.proofs.lemmas.List.{append-nil, drop_all, length-append, length-drop, length-replicate}
+use Rattle.std.proofs.Common.{◌≡◌, ℕ, ◌+◌, ◌-◌, ◌*◌, ◌≤◌, List, [], ◌++◌, length, drop, replicate, sym, refl, ap, ◌∙◌, arith}
+use Rattle.std.proofs.lemmas.List.{append-nil, drop_all, length-append, length-replicate}
 use Rattle.visit.specs.declared.Terms.{Terms}
 use Rattle.model.specs.Store.{Draft, Store, empty_store}
 use Rattle.rows.specs.Lines.{line_cells, line_laws, line_width}
@@ -21,10 +20,7 @@ use Rattle.guarantees.proofs.ReadingBack.{HasRoom, same_store}
 
 module _ {R : Type 0} {w : ℕ} {made : List ℕ → R} {cells : R → List ℕ} (laws : Laws w made cells) where
   length_table : (room : ℕ) (rs : List R) → length rs ≤ room → length (table w cells room rs) ≡ room * w
-  length_table room rs h =
-      let zeros = rows_left w (length rs) room h in
-      let rise = rows_rise w (length rs) room h in
-      length-append (cells_of cells rs) (replicate ((room - length rs) * w) 0) ∙ rw (length_cells laws rs, length-replicate {A = ℕ} ((room - length rs) * w) 0) (omega arith)
+  length_table room rs h = grind (arith, rows_left w (length rs) room h, rows_rise w (length rs) room h, length-append (cells_of cells rs) (replicate ((room - length rs) * w) 0), length_cells laws rs, length-replicate)
 
   table_rows : (room : ℕ) (rs : List R) → rows_in w made (length rs) (table w cells room rs) ≡ rs
   table_rows room rs = rows_of_cells laws rs (replicate ((room - length rs) * w) 0)
@@ -36,30 +32,17 @@ module _ {R : Type 0} {w : ℕ} {made : List ℕ → R} {cells : R → List ℕ}
 
   table_after : (room most : ℕ) (rs qs : List R) → length rs ≤ most → length qs ≤ most → most ≤ room → length rs ≤ room
       → holding w cells most qs (table w cells room rs) ≡ table w cells room qs
-  table_after room most rs qs few less fits small =
-      ap (holding w cells most qs) (table_held room rs)
-      ∙ holding_again laws room most rs qs [] small few less
-      ∙ ap (λ n. holding w cells n qs []) (let top : max room most ≡ room = omega arith in top)
-      ∙ sym (table_held room qs)
+  table_after room most rs qs few less fits small = grind (arith, table_held room rs, holding_again laws room most rs qs [] small few less, table_held room qs)
 
 module _ (t : Terms) (s : Store) (rest : List ℕ) (fits : Fits s) where
   sized_clean : Sized (clean_parts t s rest)
-  sized_clean =
-      record {
-        header = refl;
-        visits = length_table visit_laws visits_room s.live fits.visits;
-        readings = length_table reading_laws readings_room s.seen fits.readings;
-        lines = length_table line_laws lines_room s.ledger fits.lines;
-      }
+  sized_clean = grind (arith, length_table visit_laws visits_room s.live fits.visits, length_table reading_laws readings_room s.seen fits.readings, length_table line_laws lines_room s.ledger fits.lines)
 
   pub clean_cut : parts (clean_row t s rest) ≡ clean_parts t s rest
   clean_cut = parts_whole (clean_parts t s rest) sized_clean
 
   pub clean_length : length (clean_row t s rest) ≡ store_size + length rest
   clean_length = length_whole (clean_parts t s rest) sized_clean
-
-  pub clean_rest : drop store_size (clean_row t s rest) ≡ rest
-  clean_rest = ap (λ (p : Parts). p.rest) clean_cut
 
   pub clean_store : store_in (clean_row t s rest) ≡ s
   clean_store =
@@ -78,17 +61,11 @@ module _ (t : Terms) (s : Store) (rest : List ℕ) (fits : Fits s) where
 
 -- So is the row of an empty store.
 empty_table : {R : Type 0} (w : ℕ) (cells : R → List ℕ) (room : ℕ) → replicate (room * w) 0 ≡ table w cells room []
-empty_table w cells room = ap (λ n. replicate (n * w) 0) (sym (sub-zero room))
+empty_table w cells room = grind arith
 
 pub empty_clean : (t : Terms) (xs : List ℕ) → empty_row t xs ≡ clean_row t empty_store (drop store_size xs)
 empty_clean t xs =
     ap whole (parts_by (empty_parts t (drop store_size xs)) (clean_parts t empty_store (drop store_size xs)) refl (empty_table visit_width visit_cells visits_room) (empty_table reading_width reading_cells readings_room) (empty_table line_width line_cells lines_room) refl)
 
 pub empty_fits : Fits empty_store
-empty_fits = record { visits = omega arith; readings = omega arith; lines = omega arith }
-
-pub empty_store_in : (t : Terms) (xs : List ℕ) → store_in (empty_row t xs) ≡ empty_store
-empty_store_in t xs = ap store_in (empty_clean t xs) ∙ clean_store t empty_store (drop store_size xs) empty_fits
-
-pub empty_length : (t : Terms) (xs : List ℕ) → store_size ≤ length xs → length (empty_row t xs) ≡ length xs
-empty_length t xs h = ap length (empty_clean t xs) ∙ clean_length t empty_store (drop store_size xs) empty_fits ∙ omega (arith, length-drop store_size xs)
+empty_fits = grind arith

@@ -25,8 +25,7 @@ abbrev parts_of : (h v r l rest : List ℕ) → Parts
 parts_of h v r l rest = record { header = h; visits = v; readings = r; lines = l; rest = rest }
 
 pub parts_by : (p q : Parts) → p.header ≡ q.header → p.visits ≡ q.visits → p.readings ≡ q.readings → p.lines ≡ q.lines → p.rest ≡ q.rest → p ≡ q
-parts_by p q a b c d e =
-    let same : parts_of p.header p.visits p.readings p.lines p.rest ≡ parts_of q.header q.visits q.readings q.lines q.rest = cc in same
+parts_by p q a b c d e = grind arith
 
 -- Four parts and the rest, cut where each ends.
 abbrev row : (h v r l rest : List ℕ) → List ℕ
@@ -46,10 +45,10 @@ module _ (h v r l rest : List ℕ) (a b c d : ℕ) (eh : length h ≡ a) (ev : l
   to_third = length-append h v ∙ omega arith
 
   to_fourth : length ((h ++ v) ++ r) ≡ c
-  to_fourth = length-append (h ++ v) r ∙ (let e = to_third in omega arith)
+  to_fourth = grind (arith, length-append (h ++ v) r, to_third)
 
   to_fifth : length (((h ++ v) ++ r) ++ l) ≡ d
-  to_fifth = length-append ((h ++ v) ++ r) l ∙ (let e = to_fourth in omega arith)
+  to_fifth = grind (arith, length-append ((h ++ v) ++ r) l, to_fourth)
 
   cut_first : take a (row h v r l rest) ≡ h
   cut_first = take_at h (v ++ (r ++ (l ++ rest))) a eh
@@ -67,7 +66,7 @@ module _ (h v r l rest : List ℕ) (a b c d : ℕ) (eh : length h ≡ a) (ev : l
   cut_rest = ap (drop d) fifth ∙ drop_at (((h ++ v) ++ r) ++ l) rest d to_fifth
 
   long : length (row h v r l rest) ≡ d + length rest
-  long = ap length fifth ∙ length-append (((h ++ v) ++ r) ++ l) rest ∙ ap (λ n. n + length rest) to_fifth
+  long = grind (arith, length-append (((h ++ v) ++ r) ++ l) rest, fifth, to_fifth)
 
   cut_all : parts_of (take a (row h v r l rest)) (between a b (row h v r l rest)) (between b c (row h v r l rest)) (between c d (row h v r l rest)) (drop d (row h v r l rest)) ≡ parts_of h v r l rest
   cut_all = parts_by _ (parts_of h v r l rest) cut_first cut_second cut_third cut_fourth cut_rest

@@ -8,10 +8,9 @@ use Rattle.command.specs.Numbers.{Reply}
 use Rattle.command.specs.Outcomes.{Outcome, changed, refused, reply_of}
 use Rattle.model.specs.AddsUp.{AllSound, Sound, applied_all, applied_to}
 use Rattle.model.specs.Ledger.{totals}
-use Rattle.model.specs.Reference.{Reference, closed_of, empty, outcome_by, state_by}
+use Rattle.model.specs.Reference.{Reference, closed_of, empty, outcome_by}
 use Rattle.model.specs.Store.{Draft}
-use Rattle.model.proofs.Adding.{changes_applied, changes_sound, closed_rising}
-use Rattle.model.proofs.Common.{split}
+use Rattle.model.proofs.Adding.{applied_outcome, sound_outcome}
 use Rattle.model.proofs.Order.{SortedReadings}
 use Rattle.rows.specs.Out.{gone_count, new_count}
 use Rattle.store.specs.Applied.{Applied, applied_by}
@@ -27,55 +26,31 @@ use Rattle.guarantees.proofs.Moments.{row_stands}
 
 -- What is written of an outcome is read again.
 pub read_again : (o : Outcome) (out : List ℕ) → read_from (reply_of o) (out_after o out) ≡ o
-read_again (changed gone new) out = let g = gone_written gone new out in let n = new_written gone new out in cc
+read_again (changed gone new) out = grind (arith, gone_written gone new out, new_written gone new out)
 read_again (refused r) out = refl
 
 counts_by : (xs out : List ℕ) (v : Result Draft Refusal) (n : ℕ) → (applied_by xs out v).reply ≡ Ok n
     → n ≡ gone_count (applied_by xs out v).out + new_count (applied_by xs out v).out
 counts_by xs out (Ok d) n e = cc
-counts_by xs out (Err r) n e = absurd (let z : ◌≡◌ {A = ℕ} 0 1 = cc in omega arith)
+counts_by xs out (Err r) n e = grind arith
 
 pub reply_counts : ReplyCounts
 reply_counts xs c n e = counts_by xs c.out (verdict c.capacity xs c.command (length c.out)) n e
 
 -- So an answer that is right says what the reference does, unless it is withheld; then it is a refusal.
 pub heard_read : (t : Terms) (k : Reference) (c : Call) (a : Applied) → RightAnswer t k c a → withheld a.reply ≡ false → outcome_read a ≡ outcome_by t k (planned t k c)
-heard_read t k c a r h =
-    let o : Outcome = outcome_by t k (planned t k c) in
-    ap (λ (q : Reply). read_from q a.out) (r.reply h) ∙ ap (read_from (reply_of o)) (r.out h) ∙ read_again o c.out
+heard_read t k c a r h = grind (arith, read_again)
 
 pub withheld_read : (r : Reply) (out : List ℕ) → withheld r ≡ true → (q : Refusal) × (read_from r out ≡ refused q)
 withheld_read (Ok n) out h = absurd (false≢true h)
 withheld_read (Err q) out h = (q, refl)
-
--- One outcome put to the closed visits.
-applied_outcome : (t : Terms) (k : Reference) (p : Result Reference Refusal) → SortedReadings t k.readings → SortedReadings t (state_by k p).readings
-    → applied_to t (closed_of t k) (outcome_by t k p) ≡ closed_of t (state_by k p)
-applied_outcome t k (Ok j) s n = changes_applied t (closed_of t k) (closed_of t j) (closed_rising t k s) (closed_rising t j n)
-applied_outcome t k (Err r) s n = refl
-
-sound_outcome : (t : Terms) (k : Reference) (p : Result Reference Refusal) → Sound (closed_of t k) (outcome_by t k p)
-sound_outcome t k (Ok j) = changes_sound t (closed_of t k) (closed_of t j)
-sound_outcome t k (Err r) = tt
 
 -- One answer: what it says is sound, and leads to the closed visits of the next reference.
 abbrev Follows : Terms → Reference → Call → Applied → Type 0
 Follows t k c a = (applied_to t (closed_of t k) (outcome_read a) ≡ closed_of t (next t k c a.reply)) × Sound (closed_of t k) (outcome_read a)
 
 follows : (t : Terms) (k : Reference) (c : Call) (a : Applied) → SortedReadings t k.readings → RightAnswer t k c a → Follows t k c a
-follows t k c a s r =
-    split (withheld a.reply)
-    (λ h.
-    let q = withheld_read a.reply a.out h in
-    let n = next_withheld t k c a.reply h in
-    (ap (applied_to t (closed_of t k)) q.1 ∙ sym (ap (closed_of t) n), subst (Sound (closed_of t k)) (sym q.1) tt))
-    (λ h.
-    let o = heard_read t k c a r h in
-    let n = next_heard t k c a.reply h in
-    let sorted = subst (λ (j : Reference). SortedReadings t j.readings) n (next_sorted t k c a.reply s) in (
-      ap (applied_to t (closed_of t k)) o ∙ applied_outcome t k (planned t k c) s sorted ∙ sym (ap (closed_of t) n),
-      subst (Sound (closed_of t k)) (sym o) (sound_outcome t k (planned t k c)),
-    ))
+follows t k c a s r = grind (arith, next_sorted t k c a.reply s, sound_outcome t k (planned t k c), withheld_read, next_withheld, heard_read, next_heard, SortedReadings, applied_outcome)
 
 -- All of them.
 followed_from : (t : Terms) (k : Reference) (xs : List ℕ) (calls : List Call) → SortedReadings t k.readings → Faithful t k xs calls

@@ -1,22 +1,21 @@
 -- A call takes in one reading at most, so few calls take in few readings of small amounts.
-use Rattle.std.proofs.Common.{◌≡◌, ℕ, ◌+◌, ◌-◌, ◌*◌, ◌<◌, ◌≤◌, Bool, cond, ltb, List, [], ◌∷◌, length, Some, None, Err, sum_by, Option, refl, ap, ◌∙◌, arith}
+use Rattle.std.proofs.Common.{◌≡◌, ℕ, ◌+◌, ◌-◌, ◌*◌, ◌<◌, ◌≤◌, List, [], ◌∷◌, length, Some, None, Err, sum_by, refl, arith}
 use Rattle.std.proofs.lemmas.List.Sums.{sum_by-cons}
 use Rattle.std.proofs.lemmas.Bool.Decides.{nat_tests}
 use Rattle.visit.specs.declared.Reading.{Reading}
 use Rattle.visit.specs.declared.Terms.{Terms}
-use Rattle.visit.specs.Readings.{reading_before, too_late}
+use Rattle.visit.specs.Readings.{reading_before}
 use Rattle.command.specs.declared.Command.{Command}
 use Rattle.command.specs.declared.Command.TheVariants.{Reading as AReading, Watermark}
 use Rattle.command.specs.declared.Refusal.{Refusal}
 use Rattle.command.specs.Numbers.{Reply}
 use Rattle.command.specs.Bounds.{command_fault, terms_fault, word_limit}
-use Rattle.model.specs.Reference.{Reference, or_fault, plan, state_by}
-use Rattle.model.specs.Sessions.{contains, insert_reading}
+use Rattle.model.specs.Reference.{Reference, plan, state_by}
+use Rattle.model.specs.Sessions.{insert_reading}
 use Rattle.model.proofs.Common.{split}
-use Rattle.command.specs.Cells.{command_in, row_fault}
-use Rattle.store.specs.Faults.{first_fault, out_fault}
+use Rattle.command.specs.Cells.{command_in}
 use Rattle.guarantees.specs.Calls.{Call, answer}
-use Rattle.guarantees.specs.Faithful.{next, planned, reference_left, withheld}
+use Rattle.guarantees.specs.Faithful.{next, planned, reference_left}
 use Rattle.guarantees.proofs.Keeping.{planned_by}
 use Rattle.guarantees.proofs.Lengths.{length-insert}
 
@@ -43,41 +42,24 @@ amount_within : (e : Reading) → command_fault (AReading e) ≡ None → e.amou
 amount_within e h = grind (arith, nat_tests)
 
 plan_grows : (t : Terms) (k : Reference) (c : Command) → command_fault c ≡ None → Grows k (state_by k (plan t k c))
-plan_grows t k (AReading e) h =
-    split (too_late t k.watermark e)
-    (λ l. simp l (stays k))
-    (λ l. split (contains t e k.readings)
-    (λ o. simp (l, o) (stays k))
-    (λ o.
-    let n = length-insert t e k.readings in
-    let a = amounts_insert t e k.readings in
-    let b = amount_within e h in
-    simp (l, o) (omega arith, omega arith)))
-plan_grows t k (Watermark m) h = split (ltb m k.watermark) (λ o. simp o (stays k)) (λ o. simp o (stays k))
+plan_grows t k (AReading e) h = grind (arith, nat_tests, stays k, length-insert t e k.readings, amounts_insert t e k.readings, amount_within e h)
+plan_grows t k (Watermark m) h = grind (arith, nat_tests, stays k)
 
 planned_grows : (t : Terms) (k : Reference) (c : Call) → Grows k (state_by k (planned t k c))
 planned_grows t k c = planned_by t k c (Grows k) (stays k) (plan_grows t k (command_in c.command))
 
 next_grows : (t : Terms) (k : Reference) (c : Call) (r : Reply) → Grows k (next t k c r)
-next_grows t k c r = split (withheld r) (λ o. simp o (stays k)) (λ o. simp o (planned_grows t k c))
+next_grows t k c r = grind (arith, nat_tests, stays k, planned_grows t k c)
 
 pub reference_grows : (t : Terms) (k : Reference) (xs : List ℕ) (calls : List Call)
     → (length (reference_left t k xs calls).readings ≤ length k.readings + length calls) × (amounts (reference_left t k xs calls).readings ≤ amounts k.readings + length calls * (word_limit - 1))
 reference_grows t k xs [] = (omega arith, omega arith)
-reference_grows t k xs (c ∷ cs) =
-    let one = next_grows t k c (answer xs c).reply in
-    let rest = reference_grows t (next t k c (answer xs c).reply) (answer xs c).store cs in
-    (omega arith, omega arith)
+reference_grows t k xs (c ∷ cs) = grind (arith, nat_tests, next_grows t k c (answer xs c).reply, reference_grows t (next t k c (answer xs c).reply) (answer xs c).store cs)
 
 -- With terms out of bounds nothing is taken in.
 pub bad_terms_planned : (t : Terms) (k : Reference) (c : Call) (r : Refusal) → terms_fault t ≡ Some r → planned t k c ≡ Err r
-bad_terms_planned t k c r h =
-    ap (λ (o : Option Refusal). or_fault o (first_fault (row_fault c.command ∷ out_fault (length c.out) ∷ []) (plan t k (command_in c.command)))) h
+bad_terms_planned t k c r h = grind (arith, nat_tests)
 
 pub bad_terms_stay : (t : Terms) (k : Reference) (r : Refusal) → terms_fault t ≡ Some r → (xs : List ℕ) (calls : List Call) → reference_left t k xs calls ≡ k
 bad_terms_stay t k r h xs [] = refl
-bad_terms_stay t k r h xs (c ∷ cs) =
-    let p = ap (state_by k) (bad_terms_planned t k c r h) in
-    let same : next t k c (answer xs c).reply ≡ k =
-    split (withheld (answer xs c).reply) (λ o. ap (λ (b : Bool). cond b k (state_by k (planned t k c))) o) (λ o. ap (λ (b : Bool). cond b k (state_by k (planned t k c))) o ∙ p) in
-    ap (λ (j : Reference). reference_left t j (answer xs c).store cs) same ∙ bad_terms_stay t k r h (answer xs c).store cs
+bad_terms_stay t k r h xs (c ∷ cs) = grind (arith, nat_tests, bad_terms_planned t k c r h, bad_terms_stay t k r h (answer xs c).store cs)

@@ -1,5 +1,5 @@
 -- What a reading that is handed over does to the row, and that each row is needed.
-use Rattle.std.proofs.Common.{◌≡◌, ℕ, ◌<◌, false, ltb, List, [], ◌∷◌, length, drop, Some, None, Option, Result, sym, refl, ap, ◌∙◌, subst, arith}
+use Rattle.std.proofs.Common.{◌≡◌, ℕ, ◌<◌, false, List, [], ◌∷◌, length, drop, Some, None, Option, sym, refl, ap, ◌∙◌, subst, arith}
 use Rattle.std.specs.List.{ContainsAt as Has, AllByRecursion}
 use Rattle.std.proofs.ByRecursion.{all_kept_by, All-weaker}
 use Rattle.std.proofs.lemmas.Bool.{both_ways, le-ltb, lt-ltb}
@@ -8,20 +8,21 @@ use Rattle.visit.specs.declared.Reading.{Reading}
 use Rattle.visit.specs.declared.Terms.{Terms}
 use Rattle.visit.specs.declared.Visit.{Visit}
 use Rattle.visit.specs.Readings.{kept, same_reading, too_late}
-use Rattle.visit.specs.Visits.{joins, live}
+use Rattle.visit.specs.Visits.{live}
 use Rattle.command.specs.declared.Command.{Command}
 use Rattle.command.specs.declared.Command.TheVariants.{Reading as AReading, Watermark}
 use Rattle.command.specs.declared.Refusal.{Refusal}
 use Rattle.command.specs.declared.Refusal.TheVariants.{Duplicate}
-use Rattle.command.specs.Bounds.{command_fault, terms_fault, time_limit, word_limit}
+use Rattle.visit.specs.Limits.{time_limit}
+use Rattle.command.specs.Bounds.{command_fault, terms_fault, word_limit}
 use Rattle.command.specs.Numbers.{reply_number}
 use Rattle.command.specs.Outcomes.{refused, reply_of}
 use Rattle.model.specs.Kept.{ChangesVisit, MayChange}
-use Rattle.model.specs.Reference.{Reference, empty, outcome_by, plan, state_by, step}
+use Rattle.model.specs.Reference.{Reference, empty, plan, state_by, step}
 use Rattle.model.specs.Sessions.{contains, prepend, visits}
 use Rattle.model.specs.Store.{Store, store_outcome, store_step}
 use Rattle.model.proofs.Adding.{in_decides}
-use Rattle.model.proofs.Common.{all_both, split}
+use Rattle.model.proofs.Common.{all_both}
 use Rattle.model.proofs.Kept.{image_needs}
 use Rattle.model.proofs.Mirror.{image, outcome_mirror, step_mirror}
 use Rattle.model.proofs.Order.{all_insert}
@@ -48,10 +49,8 @@ abbrev Bounded : Reading → Type 0
 Bounded e = command_fault (AReading e) ≡ None
 
 step_bounded : (t : Terms) (k : Reference) (c : Command) → command_fault c ≡ None → AllByRecursion Bounded k.readings → AllByRecursion Bounded (step t k c).readings
-step_bounded t k (AReading e) b a =
-    split (too_late t k.watermark e) (λ o. simp o a)
-    (λ o. split (contains t e k.readings) (λ q. simp (o, q) a) (λ q. simp (o, q) (all_insert t Bounded e k.readings b a)))
-step_bounded t k (Watermark m) b a = split (ltb m k.watermark) (λ o. simp o a) (λ o. simp o a)
+step_bounded t k (AReading e) b a = grind (arith, nat_tests, all_insert t Bounded e k.readings b a)
+step_bounded t k (Watermark m) b a = grind (arith, nat_tests)
 
 bounded_now : (t : Terms) (xs : List ℕ) (calls : List Call) → AllByRecursion Bounded (reference_now t xs calls).readings
 bounded_now t xs calls = reference_keeps t (λ k. AllByRecursion Bounded k.readings) (step_bounded t) empty (empty_row t xs) calls tt
@@ -61,7 +60,7 @@ card_within e b = grind (arith, nat_tests)
 
 prepend_cards : (t : Terms) (n : ℕ) (e : Reading) (vs : List Visit) → e.card < n → AllByRecursion (λ v. v.card < n) vs → AllByRecursion (λ v. v.card < n) (prepend t e vs)
 prepend_cards t n e [] h a = (h, tt)
-prepend_cards t n e (v ∷ vs) h a = split (joins t e v) (λ o. simp o a) (λ o. simp o (h, a))
+prepend_cards t n e (v ∷ vs) h a = grind (arith, nat_tests)
 
 visit_cards : (t : Terms) (n : ℕ) (es : List Reading) → AllByRecursion (λ e. e.card < n) es → AllByRecursion (λ v. v.card < n) (visits t es)
 visit_cards t n [] a = tt
@@ -72,7 +71,7 @@ bounded_by : (e : Reading) → e.card < word_limit → e.time < time_limit → e
 bounded_by e c m s a = simp (lt-ltb e.card word_limit c, lt-ltb e.time time_limit m, lt-ltb e.serial word_limit s, lt-ltb e.amount word_limit a)
 
 within : (t : Terms) (e : Reading) → terms_fault t ≡ None → Bounded e → WithinBounds t e
-within t e f b cap out h = record { reading = refl; fine = (f, (b, (let o = le-ltb (length out) out_width h in simp o, tt))) }
+within t e f b cap out h = grind (arith, nat_tests, le-ltb (length out) out_width h)
 
 -- A kept reading with another amount is as much a duplicate.
 late_alike : (t : Terms) (m n : ℕ) (e : Reading) → too_late t m (with_amount n e) ≡ too_late t m e
@@ -89,17 +88,10 @@ contains_alike t n e (x ∷ xs) = simp (same_alike t n e x, contains_alike t n e
 
 duplicate_alike : (t : Terms) (s : Store) (n : ℕ) (e : Reading) → store_outcome t s (AReading e) ≡ refused (Duplicate e.time)
     → store_outcome t s (AReading (with_amount n e)) ≡ refused (Duplicate e.time)
-duplicate_alike t s n e h =
-    let l = late_alike t s.watermark n e in
-    let c = contains_alike t n e s.seen in
-    split (too_late t s.watermark e)
-    (λ o. absurd (let z : ◌≡◌ {A = ℕ} 0 1 = cc (simp o at h) in omega arith))
-    (λ o. split (contains t e s.seen)
-    (λ q. simp (l, o, c, q))
-    (λ q. absurd (let z : ◌≡◌ {A = ℕ} 0 1 = cc (simp (o, q) at h) in omega arith)))
+duplicate_alike t s n e h = grind (arith, nat_tests, late_alike t s.watermark n e, contains_alike t n e s.seen)
 
 taken_number : (t : Terms) (s : Store) (v : Visit) (e : Reading) → ChangesVisit t s v e → reply_number (reply_of (store_outcome t s (AReading e))) ≡ 0
-taken_number t s v e h = let a = h.timely in let b = h.unseen in simp (a, b)
+taken_number t s v e h = grind (arith, nat_tests)
 
 module _ (t : Terms) (k : Reference) (s : Standing t k) (rest : List ℕ) where
   abbrev row : List ℕ
@@ -110,11 +102,7 @@ module _ (t : Terms) (k : Reference) (s : Standing t k) (rest : List ℕ) where
 
   -- The store does by its rules what is asked, and the row holds what it then is.
   handed_reply : (e : Reading) (c : Call) → HandsOver t e c → withheld (answer row c).reply ≡ false → (answer row c).reply ≡ reply_of (store_outcome t (image t k) (AReading e))
-  handed_reply e c h o =
-      let p : planned t k c ≡ plan t k (AReading e) = first_none (call_faults t c) (plan t k (command_in c.command)) h.fine ∙ ap (plan t k) h.reading in
-      (moved t k s rest c).right.reply o
-      ∙ ap (λ (q : Result Reference Refusal). reply_of (outcome_by t k q)) p
-      ∙ ap reply_of (sym (outcome_mirror t k s.sorted (AReading e)))
+  handed_reply e c h o = grind (arith, nat_tests, first_none (call_faults t c) (plan t k (command_in c.command)) h.fine, moved t k s rest c, outcome_mirror t k s.sorted (AReading e))
 
   handed_store : (e : Reading) (c : Call) → HandsOver t e c → withheld (answer row c).reply ≡ false → store_in (answer row c).store ≡ store_step t (image t k) (AReading e)
   handed_store e c h o =
@@ -179,12 +167,7 @@ needed_by : (t : Terms) (xs : List ℕ) (calls : List Call) (o : Option Refusal)
 needed_by t xs calls None f =
     let l = left_now t xs calls in
     subst (AllNeeded t) (sym l.row) (needed t (reference_now t xs calls) l.stands (drop store_size xs) f (bounded_now t xs calls))
-needed_by t xs calls (Some r) f =
-    let none : store_in (row_now t xs calls) ≡ image t empty = held_now t xs calls ∙ ap (image t) (bad_terms_stay t empty r f (empty_row t xs) calls) in
-    record {
-      visits = subst (λ (z : Store). AllByRecursion (RowMayChange t (row_now t xs calls)) z.live) (sym none) tt;
-      readings = subst (λ (z : Store). AllByRecursion (RefusedAgain t (row_now t xs calls)) z.seen) (sym none) tt;
-    }
+needed_by t xs calls (Some r) f = grind (arith, nat_tests, image t empty, held_now t xs calls, image t, bad_terms_stay t empty r f (empty_row t xs) calls)
 
 pub row_nothing_in_vain : RowNothingInVain
 row_nothing_in_vain t xs calls = needed_by t xs calls (terms_fault t) refl

@@ -1,5 +1,5 @@
 -- What one call that is done writes to `out`.
-use Rattle.std.proofs.Common.{Ok, ◌≡◌, ℕ, ◌+◌, ◌≤◌, false, ltb, List, [], ◌∷◌, length, drop, filter, sym, refl, ap, ◌∙◌, subst, ⊎_elim, arith}
+use Rattle.std.proofs.Common.{Ok, ◌≡◌, ℕ, ◌+◌, ◌≤◌, false, List, [], ◌∷◌, length, drop, filter, sym, refl, ap, ◌∙◌, subst, ⊎_elim, arith}
 use Rattle.std.proofs.lemmas.Bool.{ltb-false}
 use Rattle.visit.specs.declared.Reading.{Reading}
 use Rattle.visit.specs.declared.Terms.{Terms}
@@ -12,7 +12,6 @@ use Rattle.model.specs.Reference.{Reference, outcome, outcome_by, plan}
 use Rattle.model.specs.Sessions.{closed_visits}
 use Rattle.model.specs.Store.{Store, draft}
 use Rattle.model.proofs.Changes.{few_changes, on_time, only_what_is_met}
-use Rattle.model.proofs.Common.{split}
 use Rattle.changes.specs.Changed.{newly_closed}
 use Rattle.changes.specs.Out.{change_row, overlay}
 use Rattle.changes.proofs.Differences.{only_newly_closed}
@@ -50,8 +49,8 @@ pub record Written (t : Terms) (k : Reference) (c : Call) (a : Applied) (n : ℕ
 
 module _ (t : Terms) (k : Reference) (c : Call) (a : Applied) (n : ℕ) (done : a.reply ≡ Ok n) where
   written_by : (o : Outcome) → outcome t k (command_in c.command) ≡ o → a.reply ≡ reply_of o → a.out ≡ out_after o c.out → Written t k c a n
-  written_by (changed gone new) o r w = record { gone = gone; new = new; outcome = o; out = w; count = cc (done, r) }
-  written_by (refused q) o r w = absurd (let z : ◌≡◌ {A = ℕ} 0 1 = cc (done, r) in omega arith)
+  written_by (changed gone new) o r w = grind arith
+  written_by (refused q) o r w = grind arith
 
   pub written : RightAnswer t k c a → Written t k c a n
   written right =
@@ -82,18 +81,11 @@ abbrev NoneOnTime : Terms → Reference → Type 0
 NoneOnTime t k = (e : Reading) (gone new : List Visit) → k.watermark ≤ e.time → outcome t k (AReading e) ≡ changed gone new → (gone ≡ []) × (new ≡ [])
 
 none_on_time : (t : Terms) (k : Reference) → Reached t k → NoneOnTime t k
-none_on_time t k r = subst (NoneOnTime t) (sym r.1) (on_time t r.0)
+none_on_time t k r = grind (arith, on_time t r.0)
 
 few_by : (t : Terms) (k : Reference) (e : Reading) (gone new : List Visit) (front out : List ℕ) → out ≡ overlay (change_row gone new) front
     → ((gone ≡ closed_visits t k.watermark (met t k e)) × (new ≡ closed_visits t k.watermark (became t k e ∷ []))) × ((length gone ≤ 2) × (length new ≤ 1)) → FewWritten t k e out
-few_by t k e gone new front out w m =
-    subst (FewWritten t k e) (sym w)
-    (record {
-      retracted = gone_written gone new front ∙ m.0.0;
-      added = new_written gone new front ∙ m.0.1;
-      few_retracted = m.1.0;
-      few_added = m.1.1;
-    })
+few_by t k e gone new front out w m = grind (arith, gone_written gone new front, new_written gone new front)
 
 pub row_few_changes : RowFewChanges
 row_few_changes t xs before c e n q done =
@@ -119,15 +111,7 @@ Adds t s m out = (gone_count out ≡ 0) × (new_in out ≡ filter (newly_closed 
 
 adds_by : (xs out : List ℕ) (m n : ℕ) → (applied_by xs out (draft (terms_in xs) (store_in xs) (Watermark m))).reply ≡ Ok n
     → Adds (terms_in xs) (store_in xs) m (applied_by xs out (draft (terms_in xs) (store_in xs) (Watermark m))).out
-adds_by xs out m n e =
-    let t : Terms = terms_in xs in
-    let s : Store = store_in xs in
-    let new : List Visit = filter (newly_closed t s.watermark m) s.live in
-    split (ltb m s.watermark)
-    (λ o. absurd (let z : ◌≡◌ {A = ℕ} 0 1 = cc (simp o at e) in omega arith))
-    (λ o.
-    let law = only_newly_closed t s.watermark m s.live (ltb-false m s.watermark o) in
-    simp o (subst (λ (q : Outcome). Adds t s m (out_after q out)) (sym law) (refl, new_written [] new out)))
+adds_by xs out m n e = grind (arith, only_newly_closed, ltb-false, new_written)
 
 pub row_watermark_adds : RowWatermarkAdds
 row_watermark_adds xs c m n q done =

@@ -1,9 +1,8 @@
 -- After any calls: what the row holds, and which refusals do not come.
-use Rattle.std.proofs.Common.{Err, ◌≡◌, ℕ, ◌+◌, ◌<◌, min, true, ◌||◌, eqb, ◌⊎◌, List, [], length, drop, None, sum_by, Result, sym, refl, ap, ◌∙◌, subst, inl, inr, ⊎_elim, arith}
+use Rattle.std.proofs.Common.{Err, ◌≡◌, ℕ, ◌+◌, ◌<◌, min, true, ◌||◌, eqb, ◌⊎◌, List, [], length, drop, None, sum_by, Result, sym, refl, ap, ◌∙◌, subst, ⊎_elim, arith}
 use Rattle.std.proofs.lemmas.Bool.{eqb-true, lt-ltb, or_cases, true≢false}
 use Rattle.visit.specs.declared.Reading.{Reading}
 use Rattle.visit.specs.declared.Terms.{Terms}
-use Rattle.visit.specs.Readings.{reading_before}
 use Rattle.command.specs.declared.Command.TheVariants.{Reading as AReading}
 use Rattle.command.specs.declared.Refusal.{Refusal}
 use Rattle.command.specs.Numbers.{Reply, number, reply_number}
@@ -13,7 +12,7 @@ use Rattle.model.specs.Reference.{Reference, empty, outcome_by}
 use Rattle.model.specs.Store.{Store}
 use Rattle.model.proofs.Kept.{image_holds}
 use Rattle.model.proofs.Mirror.{image}
-use Rattle.model.proofs.Same.{reading_strict, same_members, sorted_rising}
+use Rattle.model.proofs.Same.{reading_strict, same_members}
 use Rattle.rows.specs.Limits.{count_limit, sum_limit}
 use Rattle.store.specs.declared.capacity.Capacity.{Capacity}
 use Rattle.store.specs.declared.header.Header.{Header}
@@ -52,17 +51,7 @@ row_stands t xs calls =
 
 -- The row depends on the reference alone, and that on what was taken in.
 pub any_order_same_row : AnyOrderSameRow
-any_order_same_row t xs cs ds h =
-    let l = left_now t xs cs in
-    let r = left_now t xs ds in
-    let k : Reference = reference_now t xs cs in
-    let j : Reference = reference_now t xs ds in
-    let same : k.readings ≡ j.readings =
-    same_members (reading_before t) (reading_strict t) k.readings j.readings (sorted_rising t k.readings l.stands.sorted) (sorted_rising t j.readings r.stands.sorted) h.here h.there in
-    l.row
-    ∙ ap (λ (es : List Reading). clean_row t (image t (record { readings = es; watermark = k.watermark })) (drop store_size xs)) same
-    ∙ ap (λ (m : ℕ). clean_row t (image t (record { readings = j.readings; watermark = m })) (drop store_size xs)) h.watermark
-    ∙ sym r.row
+any_order_same_row t xs cs ds h = grind (arith, left_now t xs cs, left_now t xs ds, reading_strict t, same_members, image)
 
 -- A call after others: heard, or withheld with a reason.
 pub withheld_now : (t : Terms) (xs : List ℕ) (before : List Call) (c : Call) (P : Type 0) → withheld (answer (row_now t xs before) c).reply ≡ true
@@ -80,7 +69,7 @@ withheld_now t xs before c P hidden f =
     (one_call t k l.stands rest c)
 
 withheld_by : (n : ℕ) (r : Reply) → reply_number r ≡ n → (eqb n 1 || eqb n 7) ≡ true → withheld r ≡ true
-withheld_by n r e h = ap (λ (i : ℕ). eqb i 1 || eqb i 7) e ∙ h
+withheld_by n r e h = grind arith
 
 pub watermark_has_room : WatermarkHasRoom
 watermark_has_room t xs before c m q e =
@@ -118,7 +107,7 @@ first_calls_sound t xs before c h =
 
 -- A number that is withheld is 1 or 7.
 pub withheld_is : (r : Refusal) → withheld (Err r) ≡ true → (number r ≡ 1) ⊎ (number r ≡ 7)
-withheld_is r h = ⊎_elim (λ o. inl (eqb-true (number r) 1 o)) (λ o. inr (eqb-true (number r) 7 o)) (or_cases (eqb (number r) 1) (eqb (number r) 7) h)
+withheld_is r h = grind (arith, or_cases (eqb (number r) 1) (eqb (number r) 7) h, eqb-true)
 
 pub bad_terms_refused : BadTermsRefused
 bad_terms_refused t xs before c r h =

@@ -1,26 +1,24 @@
 -- What some cards have: of the ledger, of the store that stands for a reference, and of what is planned for a command.
-use Rattle.std.proofs.Common.{◌≡◌, ℕ, ◌+◌, ◌<◌, min, Bool, true, false, not, ◌&&◌, ltb, List, [], ◌∷◌, length, None, Ok, Err, filter, Result, sym, refl, ap, ◌∙◌, ⊎_elim, arith}
+use Rattle.std.proofs.Common.{◌≡◌, ℕ, Bool, true, false, List, [], ◌∷◌, None, Ok, Err, filter, Result, sym, refl, ap, ◌∙◌, ⊎_elim, arith}
 use Rattle.std.specs.List.{AllByRecursion}
 use Rattle.std.proofs.ByRecursion.{all_kept_by, All-weaker, kept_by_passes}
-use Rattle.std.proofs.lemmas.Bool.{both_ways, cond-false, cond-true, lt-ltb}
+use Rattle.std.proofs.lemmas.Bool.{lt-ltb}
 use Rattle.std.proofs.lemmas.Bool.Decides.{nat_tests}
 use Rattle.visit.specs.declared.Line.{Line}
 use Rattle.visit.specs.declared.Reading.{Reading}
 use Rattle.visit.specs.declared.Terms.{Terms}
 use Rattle.visit.specs.declared.Visit.{Visit}
 use Rattle.visit.specs.Lines.{line_before, line_of, same_key}
-use Rattle.visit.specs.Readings.{kept, same_reading, too_late}
-use Rattle.visit.specs.Visits.{live, same_visit}
 use Rattle.command.specs.declared.Command.{Command}
 use Rattle.command.specs.declared.Command.TheVariants.{Reading as AReading, Watermark}
 use Rattle.command.specs.declared.Refusal.{Refusal}
 use Rattle.model.specs.Cards.{of_cards}
 use Rattle.model.specs.Ledger.{add_line, add_visits, totals}
-use Rattle.model.specs.Reference.{Reference, after, closed_of, outcome_by, plan, state_by, step}
-use Rattle.model.specs.Sessions.{changes, contains, difference, some, visits}
+use Rattle.model.specs.Reference.{Reference, closed_of, outcome_by, plan, state_by}
+use Rattle.model.specs.Sessions.{changes, difference}
 use Rattle.model.specs.Store.{Store}
 use Rattle.model.specs.Unseen.{Lined}
-use Rattle.model.proofs.Cards.{after_part, closed_of_part, part_by, readings_by, visits_of_part}
+use Rattle.model.proofs.Cards.{closed_of_part, contains_by, part_by, step_by, step_other, visits_of_part}
 use Rattle.model.proofs.Common.{kept_agree, kept_commute, kept_shorter, some_kept, split}
 use Rattle.model.proofs.Lines.{lined_line}
 use Rattle.model.proofs.Mirror.{image}
@@ -30,7 +28,6 @@ use Rattle.store.specs.declared.capacity.Capacity.{Capacity}
 use Rattle.store.specs.Contents.{header_of}
 use Rattle.command.specs.Cells.{command_in}
 use Rattle.store.specs.Faults.{room_fault}
-use Rattle.store.specs.Layout.{lines_room, readings_room, visits_room}
 use Rattle.guarantees.specs.Calls.{Call}
 use Rattle.guarantees.specs.Cards.{concerns, outcome_part, store_part, visits_part}
 use Rattle.guarantees.specs.Faithful.{call_faults, planned}
@@ -75,13 +72,7 @@ module _ (t : Terms) (p : ℕ → Bool) where
 
   add_other : (a : Line) (ls : List Line) → p a.card ≡ false → lines_part p (add_line t a ls) ≡ lines_part p ls
   add_other a [] h = simp h
-  add_other a (x ∷ xs) h =
-      let ih = add_other a xs h in
-      split (line_before t x a)
-      (λ o. simp (o, ih))
-      (λ o. split (same_key t x a)
-      (λ k. let q : p x.card ≡ false = ap p (key_card t x a k) ∙ h in simp (o, k, q))
-      (λ k. simp (o, k, h)))
+  add_other a (x ∷ xs) h = grind (arith, nat_tests, add_other a xs h, key_card)
 
   line_card : (v : Visit) → (line_of t v).card ≡ v.card
   unfolding line_of
@@ -101,12 +92,7 @@ module _ (t : Terms) (p : ℕ → Bool) where
 
   -- The store that stands for the part is the part of the store.
   pub image_part : (k : Reference) → SortedReadings t k.readings → image t (part_by p k) ≡ store_part p (image t k)
-  image_part k s =
-      let m : ℕ = k.watermark in
-      same_store (store_part p (image t k)) (image t (part_by p k)).live (image t (part_by p k)).seen (image t (part_by p k)).ledger
-      (ap (filter (live t m)) (sym (visits_of_part t p k.readings s)) ∙ kept_commute (live t m) (λ v. p v.card) (visits t k.readings))
-      (kept_commute (kept t m) (λ e. p e.card) k.readings)
-      (ap (totals t) (sym (closed_of_part t p k s)) ∙ totals_part (closed_of t k))
+  image_part k s = grind (arith, nat_tests, image t k, image t (part_by p k), part_by p k, visits_of_part t p k.readings s, closed_of_part t p k s, totals_part (closed_of t k), same_store, kept_commute)
 
   -- The part has no more rows, with no larger numbers.
   pub small_part : (s : Store) → Small s → Small (store_part p s)
@@ -119,47 +105,16 @@ module _ (t : Terms) (p : ℕ → Bool) where
 
   pub room_part : (cap : Capacity) (s : Store) (e : Reading) → room_fault cap (header_of t s) s (AReading e) ≡ None
       → room_fault cap (header_of t (store_part p s)) (store_part p s) (AReading e) ≡ None
-  room_part cap s e h =
-      let v : length s.live < min cap.visits visits_room = grind (arith, nat_tests) in
-      let n : length s.seen < min cap.readings readings_room = grind (arith, nat_tests) in
-      let l : length s.ledger + length s.live < lines_room = grind (arith, nat_tests) in
-      let fewer_visits = kept_shorter (λ v. p v.card) s.live in
-      let fewer_readings = kept_shorter (λ e. p e.card) s.seen in
-      let fewer_lines = kept_shorter (λ l. p l.card) s.ledger in
-      let a = lt-ltb (length (store_part p s).live) (min cap.visits visits_room) (omega arith) in
-      let b = lt-ltb (length (store_part p s).seen) (min cap.readings readings_room) (omega arith) in
-      let c = lt-ltb (length (store_part p s).ledger + length (store_part p s).live) lines_room (omega arith) in
-      simp (a, b, c)
+  room_part cap s e h = grind (arith, nat_tests, kept_shorter (λ v. p v.card) s.live, kept_shorter (λ e. p e.card) s.seen, kept_shorter (λ l. p l.card) s.ledger, lt-ltb)
 
   -- What is planned for a command of these cards is the same of the part; for another, the part stays.
   abbrev pub plan_part : Result Reference Refusal → Result Reference Refusal
   plan_part (Ok j) = Ok (part_by p j)
   plan_part (Err r) = Err r
 
-  other_card : (a b : Reading) → (a.card ≡ b.card → ⊥) → same_reading t a b ≡ false
-  unfolding same_reading
-  other_card a b h = grind (arith, nat_tests)
-
-  contains_part : (e : Reading) (xs : List Reading) → p e.card ≡ true → contains t e (readings_by p xs) ≡ contains t e xs
-  contains_part e [] h = refl
-  contains_part e (x ∷ xs) h =
-      let ih = contains_part e xs h in
-      split (p x.card) (λ o. simp (o, ih))
-      (λ o. let q = other_card e x (λ same. both_ways (p x.card) o (sym (ap p same) ∙ h)) in simp (o, q, ih))
-
-  step_part : (k : Reference) (c : Command) → SortedReadings t k.readings → of_cards p c ≡ true → step t (part_by p k) c ≡ part_by p (step t k c)
-  step_part k c s h = sym (after_part t p k (c ∷ []) s ∙ ap (after t (part_by p k)) (cond-true (of_cards p c) (c ∷ []) [] h))
-
-  step_other : (k : Reference) (c : Command) → SortedReadings t k.readings → of_cards p c ≡ false → part_by p (step t k c) ≡ part_by p k
-  step_other k c s h = after_part t p k (c ∷ []) s ∙ ap (after t (part_by p k)) (cond-false (of_cards p c) (c ∷ []) [] h)
-
   planned_command : (k : Reference) (c : Command) → SortedReadings t k.readings → of_cards p c ≡ true → plan t (part_by p k) c ≡ plan_part (plan t k c)
-  planned_command k (AReading e) s h =
-      let q = contains_part e k.readings h in
-      let i = step_part k (AReading e) s h in
-      split (too_late t k.watermark e) (λ o. simp o)
-      (λ o. split (contains t e k.readings) (λ d. simp (o, q, d)) (λ d. simp (o, q, d) (ap Ok (simp (o, q, d) at i))))
-  planned_command k (Watermark m) s h = split (ltb m k.watermark) (λ o. simp o) (λ o. simp o)
+  planned_command k (AReading e) s h = grind (arith, nat_tests, contains_by t p e k.readings h, step_by t p k (AReading e) s h)
+  planned_command k (Watermark m) s h = grind (arith, nat_tests)
 
   pub planned_part : (k : Reference) (c : Call) → SortedReadings t k.readings → concerns p c ≡ true → planned t (part_by p k) c ≡ plan_part (planned t k c)
   planned_part k c s h =
@@ -172,7 +127,7 @@ module _ (t : Terms) (p : ℕ → Bool) where
       (which_comes OpenRefusal (call_faults t c) (call_only t c))
 
   pub planned_other : (k : Reference) (c : Call) → SortedReadings t k.readings → concerns p c ≡ false → part_by p (state_by k (planned t k c)) ≡ part_by p k
-  planned_other k c s h = planned_by t k c (λ j. part_by p j ≡ part_by p k) refl (λ _. step_other k (command_in c.command) s h)
+  planned_other k c s h = planned_by t k c (λ j. part_by p j ≡ part_by p k) refl (λ _. step_other t p k (command_in c.command) h)
 
   pub state_part : (k : Reference) (r : Result Reference Refusal) → state_by (part_by p k) (plan_part r) ≡ part_by p (state_by k r)
   state_part k (Ok j) = refl
@@ -180,22 +135,12 @@ module _ (t : Terms) (p : ℕ → Bool) where
 
   -- So is what has changed.
   difference_part : (vs ws : List Visit) → difference t (visits_part p vs) (visits_part p ws) ≡ visits_part p (difference t vs ws)
-  difference_part vs ws =
-      let mine : Visit → Bool = λ v. p v.card in
-      let gone : Visit → Bool = λ v. not (some (same_visit t v) ws) in
-      let gone_part : Visit → Bool = λ v. not (some (same_visit t v) (visits_part p ws)) in
-      let same : (v : Visit) → mine v ≡ true → gone_part v ≡ gone v =
-      λ v h. ap not (some_kept t mine v ws ∙ ap (λ (b : Bool). b && some (same_visit t v) ws) h) in
-      kept_agree gone_part gone (visits_part p vs) (All-weaker (λ v. mine v ≡ true) (λ v. gone_part v ≡ gone v) same (visits_part p vs) (kept_by_passes mine vs))
-      ∙ kept_commute gone mine vs
+  difference_part vs ws = grind (arith, nat_tests, some_kept, kept_agree, All-weaker, kept_by_passes, kept_commute)
 
   changes_part : (vs ws : List Visit) → changes t (visits_part p vs) (visits_part p ws) ≡ outcome_part p (changes t vs ws)
   changes_part vs ws = let a = difference_part vs ws in let b = difference_part ws vs in cc
 
   pub outcome_of_part : (k : Reference) (r : Result Reference Refusal) → SortedReadings t k.readings → SortedReadings t (state_by k r).readings
       → outcome_by t (part_by p k) (plan_part r) ≡ outcome_part p (outcome_by t k r)
-  outcome_of_part k (Ok j) s n =
-      ap (λ (vs : List Visit). changes t vs (closed_of t (part_by p j))) (sym (closed_of_part t p k s))
-      ∙ ap (changes t (visits_part p (closed_of t k))) (sym (closed_of_part t p j n))
-      ∙ changes_part (closed_of t k) (closed_of t j)
+  outcome_of_part k (Ok j) s n = grind (arith, nat_tests, part_by p j, closed_of_part t p k s, closed_of_part t p j n, changes_part (closed_of t k) (closed_of t j))
   outcome_of_part k (Err r) s n = refl

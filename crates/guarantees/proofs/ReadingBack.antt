@@ -35,8 +35,7 @@ table_long {w = w} laws room most rs xs few fits long =
 -- Stores that are equal part by part.
 pub same_store : (s : Store) (live : List Visit) (seen : List Reading) (ledger : List Line) → live ≡ s.live → seen ≡ s.seen → ledger ≡ s.ledger
     → ◌≡◌ {A = Store} (record { live = live; seen = seen; watermark = s.watermark; ledger = ledger }) s
-same_store s live seen ledger p q r =
-    let e : ◌≡◌ {A = Store} (record { live = live; seen = seen; watermark = s.watermark; ledger = ledger }) (record { live = s.live; seen = s.seen; watermark = s.watermark; ledger = s.ledger }) = cc in e
+same_store s live seen ledger p q r = grind arith
 
 module _ (xs : List ℕ) (d : Draft) (s : Store) (long : store_size ≤ length xs) (room : HasRoom (header_in xs) d s) where
   sized_after : Sized (parts_after (header_in xs) d s (parts xs))

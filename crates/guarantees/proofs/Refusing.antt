@@ -1,5 +1,5 @@
 -- Several refusals, one before the other: which of them comes.
-use Rattle.std.proofs.Common.{◌≡◌, ℕ, Bool, true, false, cond, ltb, ◌⊎◌, List, [], ◌∷◌, length, get_or, Some, None, Err, Option, Result, refl, ap, ◌∙◌, inl, inr, ⊎_elim, arith}
+use Rattle.std.proofs.Common.{◌≡◌, ℕ, Bool, true, false, cond, ◌⊎◌, List, [], ◌∷◌, length, Some, None, Err, Option, Result, refl, inl, inr, arith}
 use Rattle.std.specs.Option.{option_map}
 use Rattle.std.specs.List.{AllByRecursion}
 use Rattle.visit.specs.declared.Terms.{Terms}
@@ -7,20 +7,18 @@ use Rattle.command.specs.declared.Command.{Command}
 use Rattle.command.specs.declared.Command.TheVariants.{Reading as AReading, Watermark}
 use Rattle.command.specs.declared.Refusal.{Refusal}
 use Rattle.command.specs.declared.Refusal.TheVariants.{BadStore, BadTerms, BadCommand, Full, ShortOut}
-use Rattle.command.specs.Bounds.{command_fault, fields, first_over, terms_fault}
-use Rattle.model.specs.Reference.{or_fault}
+use Rattle.command.specs.Bounds.{command_fault, terms_fault}
 use Rattle.model.specs.Store.{Store}
-use Rattle.model.proofs.Common.{split}
 use Rattle.store.specs.declared.capacity.Capacity.{Capacity}
 use Rattle.store.specs.declared.header.Header.{Header}
-use Rattle.command.specs.Cells.{command_in, command_width, known_kind, row_fault}
+use Rattle.command.specs.Cells.{command_in, row_fault}
 use Rattle.store.specs.Faults.{first_fault, out_fault, room_fault, store_faults, watermark_fault}
 use Rattle.guarantees.specs.Calls.{Call}
 use Rattle.guarantees.specs.Faithful.{call_faults, withheld}
 
 pub first_none : {X : Type 0} (fs : List (Option Refusal)) (r : Result X Refusal) → AllByRecursion (λ f. f ≡ None) fs → first_fault fs r ≡ r
 first_none [] r a = refl
-first_none (f ∷ fs) r a = ap (λ (g : Option Refusal). or_fault g (first_fault fs r)) a.0 ∙ first_none fs r a.1
+first_none (f ∷ fs) r a = grind (arith, first_none fs r a.1)
 
 -- No refusal, or one of which P holds.
 abbrev pub Only : (Refusal → Type 0) → Option Refusal → Type 0
@@ -34,12 +32,7 @@ pub record Comes (P : Refusal → Type 0) (fs : List (Option Refusal)) : Type 1 
 
 pub which_comes : (P : Refusal → Type 0) (fs : List (Option Refusal)) → AllByRecursion (Only P) fs → AllByRecursion (λ f. f ≡ None) fs ⊎ Comes P fs
 which_comes P [] a = inl tt
-which_comes P (f ∷ fs) a =
-    ⊎_elim
-    (λ n. ⊎_elim (λ rest. inl (n, rest)) (λ c. inr (record { refusal = c.refusal; kind = c.kind; first = λ r. ap (λ (g : Option Refusal). or_fault g (first_fault fs r)) n ∙ c.first r }))
-    (which_comes P fs a.1))
-    (λ s. inr (record { refusal = s.0; kind = s.1; first = λ r. ap (λ (g : Option Refusal). or_fault g (first_fault fs r)) s.2 }))
-    a.0
+which_comes P (f ∷ fs) a = grind (arith, which_comes P fs a.1)
 
 module _ (P : Refusal → Type 0) where
   none_only : Only P None
@@ -58,29 +51,23 @@ module _ (P : Refusal → Type 0) where
 
   -- What holds of a kind of refusal holds of each check that brings it.
   pub store_only : ((n : ℕ) → P (BadStore n)) → (xs : List ℕ) → AllByRecursion (Only P) (store_faults xs)
-  store_only h xs =
-      let some : (n : ℕ) → Only P (Some (BadStore n)) = some_only BadStore h in
-      let bad = mapped_only BadStore h in
-      (search (cond_only, some, none_only), (bad _, (bad _, (bad _, (bad _, tt)))))
+  store_only h xs = grind (arith, some_only BadStore h, mapped_only BadStore h, cond_only, none_only)
 
   pub room_only : ((n : ℕ) → P (Full n)) → (cap : Capacity) (t : Header) (s : Store) (c : Command) → Only P (room_fault cap t s c)
-  room_only h cap t s (AReading e) = let some : (n : ℕ) → Only P (Some (Full n)) = some_only Full h in search (cond_only, some, none_only)
-  room_only h cap t s (Watermark m) = let some : (n : ℕ) → Only P (Some (Full n)) = some_only Full h in search (cond_only, some, none_only)
+  room_only h cap t s (AReading e) = grind (arith, some_only Full h, cond_only, none_only)
+  room_only h cap t s (Watermark m) = grind (arith, some_only Full h, cond_only, none_only)
 
   pub terms_only : ((n : ℕ) → P (BadTerms n)) → (t : Terms) → Only P (terms_fault t)
-  terms_only h t = let some : (n : ℕ) → Only P (Some (BadTerms n)) = some_only BadTerms h in search (cond_only, some, none_only)
+  terms_only h t = grind (arith, some_only BadTerms h, cond_only, none_only)
 
   pub watermark_only : ((n : ℕ) → P (BadTerms n)) → (m : ℕ) → Only P (watermark_fault m)
-  watermark_only p m = let some : (n : ℕ) → Only P (Some (BadTerms n)) = some_only BadTerms p in search (cond_only, some, none_only)
+  watermark_only p m = grind (arith, some_only BadTerms p, cond_only, none_only)
 
   pub row_only : ((n : ℕ) → P (BadCommand n)) → (cs : List ℕ) → Only P (row_fault cs)
-  row_only h cs =
-      let some : (n : ℕ) → Only P (Some (BadCommand n)) = some_only BadCommand h in
-      let command : (c : Command) → Only P (command_fault c) = λ c. mapped_only BadCommand h (first_over 1 (fields c)) in
-      search (cond_only, some, command)
+  row_only h cs = grind (arith, some_only BadCommand h, mapped_only, cond_only)
 
   pub out_only : ((n : ℕ) → P (ShortOut n)) → (n : ℕ) → Only P (out_fault n)
-  out_only h n = let some : (i : ℕ) → Only P (Some (ShortOut i)) = some_only ShortOut h in search (cond_only, some, none_only)
+  out_only h n = grind (arith, some_only ShortOut h, cond_only, none_only)
 
 -- The kinds of the store's own faults, of want of room, and of what is not withheld from the reference.
 abbrev pub IsBadStore : Refusal → Type 0
@@ -98,9 +85,4 @@ call_only t c =
 
 -- A row with nothing wrong holds a command within its bounds.
 pub sound_row : (cs : List ℕ) → row_fault cs ≡ None → command_fault (command_in cs) ≡ None
-sound_row cs h =
-    split (ltb (length cs) command_width)
-    (λ o. absurd (let z : ◌≡◌ {A = ℕ} 0 1 = cc (simp o at h) in omega arith))
-    (λ o. split (known_kind (get_or cs 0 0))
-    (λ q. simp (o, q) at h)
-    (λ q. absurd (let z : ◌≡◌ {A = ℕ} 0 1 = cc (simp (o, q) at h) in omega arith)))
+sound_row cs h = grind arith

@@ -5,11 +5,11 @@ use Rattle.std.proofs.lemmas.Bool.Decides.{nat_tests}
 use Rattle.visit.specs.declared.Reading.{Reading}
 use Rattle.visit.specs.declared.Terms.{Terms}
 use Rattle.visit.specs.declared.Visit.{Visit}
-use Rattle.visit.specs.Readings.{kept, too_late}
+use Rattle.visit.specs.Readings.{kept}
 use Rattle.visit.specs.Visits.{live, same_visit, single}
 use Rattle.command.specs.declared.Command.{Command}
 use Rattle.command.specs.declared.Command.TheVariants.{Reading as AReading, Watermark}
-use Rattle.model.specs.Sessions.{closed_visits, contains, difference, insert_reading, some}
+use Rattle.model.specs.Sessions.{closed_visits, difference, insert_reading, some}
 use Rattle.model.specs.Store.{Draft, Store, closed_after, closed_before, draft, empty_store, finish, merge_in}
 use Rattle.model.proofs.Common.{kept_shorter, split}
 use Rattle.live.specs.Tables.{open_only}
@@ -27,7 +27,7 @@ pub record Roomy (t : Terms) (s : Store) : Type 0 where
   pub lines : length s.ledger + length (open_only t s.watermark s.live) ≤ lines_room
 
 pub empty_roomy : (t : Terms) → Roomy t empty_store
-empty_roomy t = record { fits = empty_fits; lines = omega arith }
+empty_roomy t = grind (arith, nat_tests, empty_fits)
 
 -- What a command leaves if there was room for it.
 pub record LeavesRoom (t : Terms) (s : Store) (d : Draft) : Type 0 where
@@ -38,23 +38,7 @@ module _ (t : Terms) (s : Store) (r : Roomy t s) where
   -- The new lines, and those that the open visits may still need.
   room_by : (d : Draft) → length d.live ≤ visits_room → length d.seen ≤ readings_room
       → length s.ledger + (length (difference t (closed_after t d) (closed_before t s)) + length (open_only t d.watermark d.live)) ≤ lines_room → LeavesRoom t s d
-  room_by d v n l =
-      let fits = r.fits in
-      let live_fewer = kept_shorter (live t d.watermark) d.live in
-      let seen_fewer = kept_shorter (kept t d.watermark) d.seen in
-      let unclosed = fewer_open t d.watermark d.watermark d.live in
-      let posted_lines = length_posted t (difference t (closed_before t s) (closed_after t d)) (difference t (closed_after t d) (closed_before t s)) s.ledger in
-      record {
-        has =
-            record {
-              visits = omega arith;
-              most_visits = omega arith;
-              readings = omega arith;
-              most_readings = omega arith;
-              most_lines = omega arith;
-            };
-        roomy = record { fits = record { visits = omega arith; readings = omega arith; lines = omega arith }; lines = omega arith };
-      }
+  room_by d v n l = grind (arith, nat_tests, kept_shorter (live t d.watermark) d.live, kept_shorter (kept t d.watermark) d.seen, fewer_open t d.watermark d.watermark d.live, length_posted t (difference t (closed_before t s) (closed_after t d)) (difference t (closed_after t d) (closed_before t s)) s.ledger)
 
   -- A reading takes a visit, a reading and a line at most.
   room_reading : (cap : Capacity) (e : Reading) → room_fault cap (header_of t s) s (AReading e) ≡ None
@@ -85,12 +69,7 @@ module _ (t : Terms) (s : Store) (r : Roomy t s) where
 
   -- Either kind of command leaves room.
   pub leaves_room : (cap : Capacity) (c : Command) (d : Draft) → room_fault cap (header_of t s) s c ≡ None → draft t s c ≡ Ok d → LeavesRoom t s d
-  leaves_room cap (AReading e) d h q =
-      split (too_late t s.watermark e)
-      (λ o. absurd (let z : ◌≡◌ {A = ℕ} 0 1 = cc (simp o at q) in omega arith))
-      (λ o. split (contains t e s.seen)
-      (λ k. absurd (let z : ◌≡◌ {A = ℕ} 0 1 = cc (simp (o, k) at q) in omega arith))
-      (λ k. subst (LeavesRoom t s) (cc (simp (o, k) at q)) (room_reading cap e h)))
+  leaves_room cap (AReading e) d h q = grind (arith, nat_tests, room_reading cap e h)
   leaves_room cap (Watermark m) d h q =
       split (ltb m s.watermark)
       (λ o. absurd (let z : ◌≡◌ {A = ℕ} 0 1 = cc (simp o at q) in omega arith))

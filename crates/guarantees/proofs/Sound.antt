@@ -13,7 +13,8 @@ use Rattle.model.specs.Reference.{Reference, closed_of, ledger_of}
 use Rattle.model.specs.Sessions.{visits}
 use Rattle.model.proofs.Common.{all_both, kept_shorter}
 use Rattle.model.proofs.Mirror.{image}
-use Rattle.rows.specs.Limits.{count_limit, sum_limit, time_limit}
+use Rattle.visit.specs.Limits.{time_limit}
+use Rattle.rows.specs.Limits.{count_limit, sum_limit}
 use Rattle.store.specs.Faults.{store_faults}
 use Rattle.guarantees.specs.Rows.{clean_row}
 use Rattle.guarantees.proofs.Limits.{SmallLine, SmallReading, SmallVisit, clean_sound}

@@ -5,18 +5,17 @@ use Rattle.std.proofs.lemmas.Bool.{lt-ltb}
 use Rattle.std.proofs.lemmas.Bool.Decides.{nat_tests}
 use Rattle.visit.specs.declared.Reading.{Reading}
 use Rattle.visit.specs.declared.Terms.{Terms}
-use Rattle.visit.specs.Readings.{too_late}
 use Rattle.command.specs.declared.Command.{Command}
 use Rattle.command.specs.declared.Command.TheVariants.{Reading as AReading, Watermark}
 use Rattle.command.specs.declared.Refusal.{Refusal}
 use Rattle.command.specs.declared.Refusal.TheVariants.{BadTerms}
-use Rattle.command.specs.Bounds.{command_fault, terms_fault, time_limit}
+use Rattle.visit.specs.Limits.{time_limit}
+use Rattle.command.specs.Bounds.{command_fault, terms_fault}
 use Rattle.command.specs.Numbers.{number}
 use Rattle.command.specs.Outcomes.{Outcome, reply_of}
 use Rattle.model.specs.Reference.{Reference, closed_of, empty, ledger_of, or_fault, outcome_by, plan, state_by}
-use Rattle.model.specs.Sessions.{changes, contains}
+use Rattle.model.specs.Sessions.{changes}
 use Rattle.model.specs.Store.{Draft, Store, closed_after, closed_before, draft, finish}
-use Rattle.model.proofs.Common.{split}
 use Rattle.model.proofs.Mirror.{Goes_on, GoesOnBy, changes_mirror, draft_mirror, drafted, drafted_by, finish_mirror, image, plan_goes_on}
 use Rattle.model.proofs.Order.{SortedReadings, all_insert}
 use Rattle.store.specs.declared.capacity.Capacity.{Capacity}
@@ -39,7 +38,7 @@ pub record Standing (t : Terms) (k : Reference) : Type 0 where
   pub roomy : Roomy t (image t k)
 
 pub empty_standing : (t : Terms) → Standing t empty
-empty_standing t = record { sorted = tt; watermark = omega arith; times = tt; roomy = empty_roomy t }
+empty_standing t = grind (arith, nat_tests, empty_roomy t)
 
 -- A command within bounds keeps watermark and times within them.
 abbrev Within : Reference → Type 0
@@ -56,13 +55,8 @@ mark_within : (m : ℕ) → command_fault (Watermark m) ≡ None → m < time_li
 mark_within m h = grind (arith, nat_tests)
 
 plan_within : (t : Terms) (k : Reference) (c : Command) → command_fault c ≡ None → Within k → WithinBy (plan t k c)
-plan_within t k (AReading e) h w =
-    split (too_late t k.watermark e)
-    (λ l. simp l tt)
-    (λ l. split (contains t e k.readings)
-    (λ o. simp (l, o) tt)
-    (λ o. simp (l, o) (w.0, all_insert t (λ x. x.time < time_limit) e k.readings (time_within e h) w.1)))
-plan_within t k (Watermark m) h w = split (ltb m k.watermark) (λ o. simp o tt) (λ o. simp o (mark_within m h, w.1))
+plan_within t k (AReading e) h w = grind (arith, nat_tests, all_insert t (λ x. x.time < time_limit) e k.readings (time_within e h) w.1, time_within e h)
+plan_within t k (Watermark m) h w = grind (arith, nat_tests, mark_within m h)
 
 -- The answer by what the reference plans, and the answer of a refusal.
 abbrev pub answered_by : Terms → Reference → List ℕ → List ℕ → Result Reference Refusal → Applied
@@ -73,8 +67,7 @@ abbrev pub refused_by : List ℕ → List ℕ → Refusal → Applied
 refused_by xs out r = record { reply = Err r; store = xs; out = out }
 
 same_applied : (a b : Applied) → a.reply ≡ b.reply → a.store ≡ b.store → a.out ≡ b.out → a ≡ b
-same_applied a b p q r =
-    let e : ◌≡◌ {A = Applied} (record { reply = a.reply; store = a.store; out = a.out }) (record { reply = b.reply; store = b.store; out = b.out }) = cc in e
+same_applied a b p q r = grind (arith, nat_tests)
 
 module _ (t : Terms) (k : Reference) (s : Standing t k) (rest : List ℕ) where
   abbrev row : List ℕ
@@ -95,14 +88,7 @@ module _ (t : Terms) (k : Reference) (s : Standing t k) (rest : List ℕ) where
     finished next q = finish_mirror t k next s.sorted (goes next q)
 
     stands_on : (next : Reference) → plan t k c ≡ Ok next → Standing t next
-    stands_on next q =
-        let within : Within next = subst WithinBy q (plan_within t k c sound (s.watermark, s.times)) in
-        record {
-          sorted = (goes next q).sorted;
-          watermark = within.0;
-          times = within.1;
-          roomy = subst (Roomy t) (finished next q) (leaves next q).roomy;
-        }
+    stands_on next q = grind (arith, nat_tests, plan_within t k c sound (s.watermark, s.times), goes next q, Roomy t, finished next q, leaves next q)
 
     taken : (out : List ℕ) (next : Reference) → plan t k c ≡ Ok next → applied_by row out (Ok (drafted t k.watermark next)) ≡ answered_by t k rest out (Ok next)
     taken out next q =
@@ -141,9 +127,8 @@ module _ (t : Terms) (k : Reference) (s : Standing t k) (rest : List ℕ) where
 
 -- A command that reaches the reference's plan, or is refused on the way to it, is not withheld.
 plan_open : (t : Terms) (k : Reference) (c : Command) → withheld (reply_of (outcome_by t k (plan t k c))) ≡ false
-plan_open t k (AReading e) =
-    split (too_late t k.watermark e) (λ l. simp l) (λ l. split (contains t e k.readings) (λ o. simp (l, o)) (λ o. simp (l, o)))
-plan_open t k (Watermark m) = split (ltb m k.watermark) (λ o. simp o) (λ o. simp o)
+plan_open t k (AReading e) = grind (arith, nat_tests)
+plan_open t k (Watermark m) = grind (arith, nat_tests)
 
 -- The reference hears of a call: it has the same answer, and the row stands for its next state.
 pub record Heard (t : Terms) (k : Reference) (rest : List ℕ) (c : Call) : Type 0 where

@@ -1,5 +1,6 @@
 -- Rows that commands have written: each command keeps them so, and they are stores while the totals are below their limits.
 use Rattle.std.proofs.Common.{◌≡◌, ℕ, ◌+◌, ◌<◌, ◌≤◌, min, true, ltb, List, [], ◌∷◌, ◌++◌, length, drop, Some, None, Err, Option, Result, sym, refl, ap, ◌∙◌, subst, arith}
+use mathlib.Core.Logic.{∥∥₁_map}
 use Rattle.std.proofs.lemmas.Bool.Decides.{nat_tests}
 use Rattle.visit.specs.declared.Terms.{Terms}
 use Rattle.visit.specs.Readings.{too_late}
@@ -12,12 +13,14 @@ use Rattle.model.specs.Sessions.{contains}
 use Rattle.model.proofs.Common.{split}
 use Rattle.model.proofs.Mirror.{image}
 use Rattle.rows.specs.Limits.{count_limit, sum_limit}
+use Rattle.store.specs.declared.capacity.Capacity.{Capacity}
+use Rattle.store.specs.Applied.{applied}
 use Rattle.store.specs.Checks.{sound_row}
 use Rattle.store.specs.Contents.{empty_row}
 use Rattle.command.specs.Cells.{command_in, command_cells}
 use Rattle.store.specs.Faults.{first_fault}
 use Rattle.store.specs.Layout.{store_size}
-use Rattle.store.proofs.Knowing.{sound_by}
+use Rattle.store.proofs.Bounds.{sound_by}
 use Rattle.guarantees.specs.AnyTime.{reference_now}
 use Rattle.guarantees.specs.Calls.{Call, answer, row_left}
 use Rattle.guarantees.specs.Faithful.{call_faults, next, planned, reference_left, withheld}
@@ -87,6 +90,18 @@ written_more xs amount taken w c added total readings is more one =
       count = omega (arith, w.count, takes.0);
     }
 
+same_command : (c : Command) → command_in (command_cells c) ≡ c
+same_command (AReading e) = refl
+same_command (Watermark m) = refl
+
+-- A command is one call more.
+pub written_then : (cap : Capacity) (cmd : Command) (xs ys out : List ℕ) (amount taken added total readings : ℕ) → ∥ Written xs amount taken ∥₁
+    → ys ≡ (applied cap xs (command_cells cmd) out).store → added ≡ amount_in cmd → min (amount + added) sum_limit ≤ total → min (taken + 1) count_limit ≤ readings → ∥ Written ys total readings ∥₁
+written_then cap cmd xs ys out amount taken added total readings written row is more one =
+    let call : Call = record { capacity = cap; command = command_cells cmd; out = out } in
+    ∥∥₁_map written (λ w. subst (λ (zs : List ℕ). Written zs total readings) (sym row)
+    (written_more xs amount taken w call added total readings (ap amount_in (same_command cmd) ∙ sym is) more one))
+
 below : (amount taken : ℕ) → below_limits amount taken ≡ true → (amount < sum_limit) × (taken < count_limit)
 below amount taken h = (grind (arith, nat_tests), grind (arith, nat_tests))
 
@@ -99,7 +114,3 @@ written_sound xs amount taken h w =
     let n : length k.readings < count_limit = omega (arith, w.count, b.1) in
     let a : amounts k.readings < sum_limit = omega (arith, w.sum, b.0) in
     ap sound_row (w.row ∙ l.row) ∙ sound_by (clean_row w.terms (image w.terms k) rest) (sound_now w.terms k l.stands n a rest)
-
-pub same_command : (c : Command) → command_in (command_cells c) ≡ c
-same_command (AReading e) = refl
-same_command (Watermark m) = refl

@@ -1,3 +1,4 @@
 pub mod Written
 pub mod Rows
 pub mod State
+pub mod Replies

@@ -4,22 +4,22 @@
 mod answers;
 mod state;
 
-ghost use Rattle.command.specs.Outcomes.{outcome_of};
+ghost use Rattle.changes.specs.Out.{outcome_row, overlay};
+ghost use Rattle.command.specs.Outcomes.{outcome_of, reply_of};
 ghost use Rattle.owned.specs.Rows.{lines_shown, outcome_to, row_then};
 ghost use Rattle.owned.specs.State.{IsNew, capacity_of, out_long, row_of};
 ghost use Rattle.owned.specs.Written.{amount_in, below_limits};
-ghost use Rattle.std.specs.Prelude.{◌≡◌, true, length, IfOk};
-ghost use Rattle.store.specs.Checks.{sound_row};
+ghost use Rattle.std.specs.Prelude.{◌≡◌, length, IfOk};
 
-use answers::changes_of;
+use answers::answer_of;
 use command::cells::COMMAND_WIDTH;
-use command::{Answer, Command};
+use command::{Answer, Command, Reply};
 use rows::limits::{COUNT_LIMIT, SUM_LIMIT};
 use rows::row::Row;
 use rows::table::Rows;
 pub use state::OwnedStore;
 use std::alloc::{AllocError, Global};
-use store::applying::apply_known;
+use store::applying::{apply_sound, apply_within};
 use store::capacity::Capacity;
 use store::header::Header;
 use store::layout::{LINES_AT, LINES_ROOM, OUT_SIZE, STORE_SIZE};
@@ -43,24 +43,20 @@ fn below_limits(amount: u64, taken: u64) -> bool
     amount < SUM_LIMIT && taken < COUNT_LIMIT
 }
 
-// Does a command, and answers with the visits that changed. A row that is known to be a store is not looked through.
+// Does a command to a lent row, of which nothing is known, and answers with the visits that changed.
 pub fn answer(
     heap: Global,
     capacity: Capacity,
     row: &mut [u64],
-    known: bool,
     out: &mut [u64],
     command: Command,
 ) -> Result<Answer, AllocError>
-    requires { known ≡ true → sound_row row.old ≡ true }
     ensures answer { IfOk result (λ a. outcome_of a ≡ outcome_to capacity row.old (length out.old) command) }
     ensures row { row.new ≡ row_then capacity row.old (length out.old) command }
 {
     let cells: [u64; COMMAND_WIDTH] = command.into();
-    match apply_known(capacity, row, known, &cells, out) {
-        Ok(_) => Ok(Ok(changes_of(heap, out)?)),
-        Err(refusal) => Ok(Err(refusal)),
-    }
+    let reply = apply_within(capacity, row, &cells, out);
+    answer_of(heap, reply, out)
 }
 
 // The lines of a store; none if the row is too short for one.
@@ -98,18 +94,30 @@ impl OwnedStore {
         ensures out { out_long self.new ≡ out_long self.old }
         ensures capacity { capacity_of self.new ≡ capacity_of self.old }
     {
-        let known = below_limits(self.amount, self.taken);
+        let reply = self.reply_to(command);
+        answer_of(heap, reply, self.out.as_slice())
+    }
+
+    // Does a command to the row, which is looked through first unless it is known to be a store.
+    fn reply_to(&mut self, command: Command) -> Reply
+        ensures reply { result ≡ reply_of (outcome_to (capacity_of self.old) (row_of self.old) (out_long self.old) command) }
+        ensures row { row_of self.new ≡ row_then (capacity_of self.old) (row_of self.old) (out_long self.old) command }
+        ensures out { self.new.out.items ≡ overlay (outcome_row (outcome_to (capacity_of self.old) (row_of self.old) (out_long self.old) command)) self.old.out.items }
+        ensures long { out_long self.new ≡ out_long self.old }
+        ensures capacity { capacity_of self.new ≡ capacity_of self.old }
+    {
+        let sound = below_limits(self.amount, self.taken);
         self.amount = self.amount.saturating_add(amount_in(command));
         self.taken = self.taken.saturating_add(1);
+        let capacity = self.capacity;
+        let cells: [u64; COMMAND_WIDTH] = command.into();
         let row = self.row.as_mut_slice();
-        answer(
-            heap,
-            self.capacity,
-            row,
-            known,
-            self.out.as_mut_slice(),
-            command,
-        )
+        let out = self.out.as_mut_slice();
+        if sound {
+            apply_sound(capacity, row, &cells, out)
+        } else {
+            apply_within(capacity, row, &cells, out)
+        }
     }
 
     // The lines that stand in the row, of which there is room for so many.

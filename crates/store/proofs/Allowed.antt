@@ -1,7 +1,8 @@
 -- What passed checks allow: the command can be drafted and finished, and every sum fits in 64 bits.
-use Rattle.std.proofs.Common.{◌≡◌, ℕ, ◌+◌, ◌^◌, ◌<◌, ◌≤◌, min, Bool, true, false, cond, not, ltb, leb, List, [], ◌∷◌, length, Some, None, sum_by, filter, Option, refl, ap, arith}
+use Rattle.std.proofs.Common.{◌≡◌, ℕ, ◌+◌, ◌^◌, ◌<◌, ◌≤◌, min, Bool, true, false, cond, not, ltb, leb, List, [], ◌∷◌, length, Some, None, filter, Option, refl, ap, arith}
 use Rattle.std.specs.List.{AllByRecursion}
-use Rattle.std.proofs.ByRecursion.{All-weaker, sum_by_le}
+use Rattle.std.proofs.ByRecursion.{All-weaker}
+use Rattle.std.proofs.lemmas.List.Filters.{sum_by-filter_both}
 use Rattle.std.proofs.lemmas.List.Sums.{sum_by-cons}
 use Rattle.std.proofs.lemmas.Bool.{leb-true, ltb-true}
 use Rattle.std.proofs.lemmas.Bool.Decides.{nat_tests}
@@ -9,18 +10,19 @@ use Rattle.visit.specs.declared.Line.{Line}
 use Rattle.visit.specs.declared.Reading.{Reading}
 use Rattle.visit.specs.declared.Terms.{Terms}
 use Rattle.visit.specs.declared.Visit.{Visit}
-use Rattle.visit.specs.Visits.{closed, merged, near, same_visit, single, visit_before}
+use Rattle.visit.specs.Visits.{closed, merged, same_visit, single}
 use Rattle.command.specs.declared.Command.TheVariants.{Reading as AReading, Watermark}
 use Rattle.command.specs.declared.Refusal.TheVariants.{BadCommand, Full}
-use Rattle.command.specs.Bounds.{command_fault, fields, first_over as first_field, time_limit, word_limit}
+use Rattle.visit.specs.Limits.{time_limit}
+use Rattle.command.specs.Bounds.{command_fault, fields, first_over as first_field, word_limit}
 use Rattle.command.specs.Outcomes.{Outcome, changed, refused}
-use Rattle.model.specs.Sessions.{closed_visits, difference, some}
+use Rattle.model.specs.Sessions.{closed_visits, difference, insert_reading, some}
 use Rattle.model.specs.Store.{Store, merge_in}
-use Rattle.model.proofs.Common.{kept_shorter, split}
+use Rattle.model.proofs.Common.{kept_shorter}
 use Rattle.rows.specs.Limits.{first_over}
 use Rattle.rows.specs.Lines.{line_cells, line_limits}
-use Rattle.rows.specs.Visits.{visit_cells, visit_limits}
 use Rattle.rows.proofs.Overs.{mapped_none}
+use Rattle.rows.proofs.Within.{VisitWithin, counts_within, sums_within}
 use Rattle.ledger.specs.Fits.{Fits, FitsIn}
 use Rattle.visit.specs.Sums.{counts, sums}
 use Rattle.live.specs.Tables.{open_only}
@@ -34,38 +36,26 @@ use Rattle.store.specs.Faults.{room_fault}
 use Rattle.store.specs.Header.{Counted}
 use Rattle.store.specs.Layout.{lines_room, readings_room, visits_room}
 use Rattle.store.specs.Steps.{Performable}
-use Rattle.store.proofs.Drafting.{length_inserted_reading}
 
--- A visit and a line within their limits.
-pub small_visit : (v : Visit) → first_over 0 visit_limits (visit_cells v) ≡ None → (v.count ≤ 2 ^ 40) × (v.sum ≤ 2 ^ 52)
-small_visit v e = (grind (arith, nat_tests), grind (arith, nat_tests))
-
+-- A line within its limits.
 pub small_line : (l : Line) → first_over 0 line_limits (line_cells l) ≡ None → (l.visits ≤ 2 ^ 40) × (l.sum ≤ 2 ^ 52)
 small_line l e = (grind (arith, nat_tests), grind (arith, nat_tests))
 
--- A part of some visits has no larger sum, and no more of them.
-pub sums_kept : (f : Visit → ℕ) (p : Visit → Bool) (vs : List Visit) → sum_by f (filter p vs) ≤ sum_by f vs
-sums_kept f p [] = omega arith
-sums_kept f p (v ∷ vs) =
-    let ih = sums_kept f p vs in
-    split (p v) (λ o. simp o (omega (arith, ih, sum_by-cons f v vs, sum_by-cons f v (filter p vs)))) (λ o. simp o (omega (arith, ih, sum_by-cons f v vs)))
-
-pub kept_fewer : (p q : Visit → Bool) (vs : List Visit) → ((v : Visit) → p v ≡ true → q v ≡ true) → length (filter p vs) ≤ length (filter q vs)
+-- A test that lets more pass.
+kept_fewer : (p q : Visit → Bool) (vs : List Visit) → ((v : Visit) → p v ≡ true → q v ≡ true) → length (filter p vs) ≤ length (filter q vs)
 kept_fewer p q [] h = omega arith
-kept_fewer p q (v ∷ vs) h =
-    let ih = kept_fewer p q vs h in
-    split (p v) (λ o. let both = h v o in simp (o, both) (omega (arith, ih))) (λ o. split (q v) (λ y. simp (o, y) (omega (arith, ih))) (λ y. simp (o, y) ih))
+kept_fewer p q (v ∷ vs) h = grind (arith, h v, kept_fewer p q vs h)
+
+pub length_inserted : (t : Terms) (e : Reading) (xs : List Reading) → length (insert_reading t e xs) ≡ length xs + 1
+length_inserted t e [] = refl
+length_inserted t e (x ∷ xs) = grind (arith, nat_tests, length_inserted t e xs)
 
 -- Merging loses nothing.
 pub sums_merged : (t : Terms) (v : Visit) (vs : List Visit) → sums (merge_in t v vs) ≡ sums vs + v.sum
 sums_merged t v [] = omega (arith, sum_by-cons (λ (u : Visit). u.sum) v [])
 sums_merged t v (w ∷ ws) =
     let f : Visit → ℕ = λ u. u.sum in
-    let taken = sums_merged t (merged v w) ws in
-    let past = sums_merged t v ws in
-    split (near t v w) (λ o. simp o (omega (arith, taken, sum_by-cons f w ws)))
-    (λ o. split (visit_before t w v) (λ b. simp (o, b) (omega (arith, past, sum_by-cons f w (merge_in t v ws), sum_by-cons f w ws)))
-    (λ b. simp (o, b) (omega (arith, sum_by-cons f v (w ∷ ws), sum_by-cons f w ws))))
+    grind (arith, sums_merged t (merged v w) ws, sums_merged t v ws, sum_by-cons f w ws, sum_by-cons f w (merge_in t v ws), sum_by-cons f v (w ∷ ws))
 
 abbrev added_part : Outcome → List Visit
 added_part (changed gone new) = new
@@ -75,7 +65,8 @@ added_part (refused r) = []
 pub new_sums : (t : Terms) (a b : ℕ) (vs ws : List Visit) → sums (difference t (closed_visits t a vs) (closed_visits t b ws)) ≤ sums vs
 new_sums t a b vs ws =
     let f : Visit → ℕ = λ u. u.sum in
-    omega (arith, sums_kept f (λ v. not (some (same_visit t v) (closed_visits t b ws))) (closed_visits t a vs), sums_kept f (closed t a) vs)
+    let kept = λ (p : Visit → Bool) (us : List Visit). sum_by-filter_both p (λ v. not (p v)) (λ _. refl) f us in
+    omega (arith, kept (λ v. not (some (same_visit t v) (closed_visits t b ws))) (closed_visits t a vs), kept (closed t a) vs)
 
 pub new_few : (t : Terms) (from to : ℕ) (vs : List Visit) → from ≤ to → length (difference t (closed_visits t to vs) (closed_visits t from vs)) ≤ length (open_only t from vs)
 new_few t from to vs h =
@@ -101,19 +92,15 @@ pub record Within (h : Header) (s : Store) : Type 0 where
   pub counts : Counted h
   pub visits : length s.live ≡ h.visits
   pub readings : length s.seen ≡ h.readings
-  pub live : AllByRecursion (λ v. first_over 0 visit_limits (visit_cells v) ≡ None) s.live
+  pub live : AllByRecursion VisitWithin s.live
   pub ledger : AllByRecursion (λ l. first_over 0 line_limits (line_cells l) ≡ None) s.ledger
 
 module _ (h : Header) (s : Store) (w : Within h s) where
-  pub counts_fit : counts s.live ≤ 2 ^ 50
-  counts_fit =
-      let all = All-weaker (λ v. first_over 0 visit_limits (visit_cells v) ≡ None) (λ v. v.count ≤ 2 ^ 40) (λ v e. (small_visit v e).0) s.live w.live in
-      omega (arith, sum_by_le (λ (v : Visit). v.count) (2 ^ 40) s.live all, w.visits, w.counts.visits)
+  counts_fit : counts s.live ≤ 2 ^ 50
+  counts_fit = omega (arith, counts_within s.live w.live, w.visits, w.counts.visits)
 
-  pub sums_fit : sums s.live ≤ 2 ^ 62
-  sums_fit =
-      let all = All-weaker (λ v. first_over 0 visit_limits (visit_cells v) ≡ None) (λ v. v.sum ≤ 2 ^ 52) (λ v e. (small_visit v e).1) s.live w.live in
-      omega (arith, sum_by_le (λ (v : Visit). v.sum) (2 ^ 52) s.live all, w.visits, w.counts.visits)
+  sums_fit : sums s.live ≤ 2 ^ 62
+  sums_fit = omega (arith, sums_within s.live w.live, w.visits, w.counts.visits)
 
   pub reading_allowed : (cap : Capacity) (e : Reading) → command_fault (AReading e) ≡ None → room_fault cap h s (AReading e) ≡ None → Performable h s (AReading e)
   reading_allowed cap e bounds room =
@@ -134,9 +121,9 @@ module _ (h : Header) (s : Store) (w : Within h s) where
       let added_sum = new_sums t s.watermark s.watermark (merge_in t (single e) vs) vs in
       record {
         counts = w.counts;
-        draftable = (v_room, r_room, omega (arith, counts_fit), omega (arith, sums_fit));
+        draftable = (v_room, r_room, record { count = omega (arith, counts_fit); sum = omega (arith, sums_fit) });
         visits = omega (arith, length_merged t (single e) vs, length_parts t (single e) vs, w.visits);
-        readings = omega (arith, length_inserted_reading t e s.seen, w.readings);
+        readings = omega (arith, length_inserted t e s.seen, w.readings);
         lines = omega (arith, few);
         fits = fits_lines _ _ s.ledger (omega (arith, few)) (omega (arith, added_sum, merged_sum, sums_fit)) w.ledger;
       }
@@ -152,7 +139,7 @@ module _ (h : Header) (s : Store) (w : Within h s) where
       let added_sum = new_sums t m s.watermark vs vs in
       record {
         counts = w.counts;
-        draftable = order;
+        draftable = omega (arith, order, same);
         visits = omega (arith, w.visits, w.counts.visits);
         readings = omega (arith, w.readings, w.counts.readings);
         lines = omega (arith, few, still, l_room);

@@ -1,13 +1,9 @@
-pub mod Cuts
 pub mod Places
 pub mod Bounds
-pub mod Knowing
+pub mod Views
 pub mod Stops
-pub mod Passing
-pub mod Drafting
-pub mod Finishing
 pub mod Ending
 pub mod Allowed
+pub mod Passing
 pub mod Verdicts
-pub mod Emptying
-pub mod Views
+pub mod Cuts

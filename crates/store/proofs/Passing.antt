@@ -11,11 +11,7 @@ use Rattle.command.specs.Cells.{command_in}
 use Rattle.store.specs.Faults.{faults, first_fault, verdict}
 use Rattle.store.proofs.Places.{no_fault, no_fault_is}
 
--- The refusal of a draft, if it is one, and the draft, if it is none.
-pub no_refusal : {X : Type 0} (r : Result X Refusal) → refusal_of r ≡ None → (x : X) × (r ≡ Ok x)
-no_refusal (Ok x) e = (x, refl)
-no_refusal (Err f) e = absurd (let z : ◌≡◌ {A = ℕ} 0 1 = cc e in omega arith)
-
+-- What is refused by a draft is refused by all checks with the draft behind them.
 pub refused_too : {X Y : Type 0} (fs : List (Option Refusal)) (y : Y) (r : Refusal) (x : Result X Refusal) → first_fault (fs ++ (refusal_of x ∷ [])) (Ok y) ≡ Err r → first_fault fs x ≡ Err r
 refused_too [] y r (Ok x) e = absurd (let z : ◌≡◌ {A = ℕ} 0 1 = cc e in omega arith)
 refused_too [] y r (Err f) e = let same : f ≡ r = cc e in ap Err same

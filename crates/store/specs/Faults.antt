@@ -6,7 +6,8 @@ use Rattle.command.specs.declared.Command.{Command}
 use Rattle.command.specs.declared.Command.TheVariants.{Reading as AReading, Watermark}
 use Rattle.command.specs.declared.Refusal.{Refusal}
 use Rattle.command.specs.declared.Refusal.TheVariants.{BadStore, BadTerms, Full, ShortOut}
-use Rattle.command.specs.Bounds.{terms_fault, time_limit}
+use Rattle.visit.specs.Limits.{time_limit}
+use Rattle.command.specs.Bounds.{terms_fault}
 use Rattle.command.specs.Cells.{command_in, row_fault}
 use Rattle.model.specs.Reference.{or_fault}
 use Rattle.model.specs.Store.{Draft, Store, draft}

@@ -3,6 +3,7 @@ pub mod Header
 pub mod Parts
 pub mod Contents
 pub mod Faults
+pub mod Views
 pub mod Checks
 pub mod Steps
 pub mod Applied

@@ -1,7 +1,10 @@
--- The store's row cut into its parts, and one part put in place of another.
-use Rattle.std.specs.Prelude.{ℕ, List, ◌++◌, take, drop}
+-- The store's row cut into its parts.
+use Rattle.std.specs.Prelude.{◌≡◌, ℕ, ◌*◌, List, [], ◌++◌, length, take, drop}
 use Rattle.std.specs.List.{between}
-use Rattle.store.specs.Layout.{lines_at, readings_at, store_size, visits_at}
+use Rattle.rows.specs.Lines.{line_width}
+use Rattle.rows.specs.Readings.{reading_width}
+use Rattle.rows.specs.Visits.{visit_width}
+use Rattle.store.specs.Layout.{header_width, lines_at, lines_room, readings_at, readings_room, store_size, visits_at, visits_room}
 
 pub record Parts : Type 0 where
   pub header : List ℕ
@@ -23,14 +26,12 @@ parts xs =
 abbrev pub whole : Parts → List ℕ
 whole p = p.header ++ (p.visits ++ (p.readings ++ (p.lines ++ p.rest)))
 
-abbrev pub with_header : List ℕ → Parts → Parts
-with_header xs p = record { header = xs; visits = p.visits; readings = p.readings; lines = p.lines; rest = p.rest }
+-- The parts of a row that ends with the lines, each of the length of its room.
+abbrev pub parts_from : (header visits readings lines : List ℕ) → Parts
+parts_from h v r l = record { header = h; visits = v; readings = r; lines = l; rest = [] }
 
-abbrev pub with_visits : List ℕ → Parts → Parts
-with_visits xs p = record { header = p.header; visits = xs; readings = p.readings; lines = p.lines; rest = p.rest }
-
-abbrev pub with_readings : List ℕ → Parts → Parts
-with_readings xs p = record { header = p.header; visits = p.visits; readings = xs; lines = p.lines; rest = p.rest }
-
-abbrev pub with_lines : List ℕ → Parts → Parts
-with_lines xs p = record { header = p.header; visits = p.visits; readings = p.readings; lines = xs; rest = p.rest }
+pub record Long (p : Parts) : Type 0 where
+  pub header : length p.header ≡ header_width
+  pub visits : length p.visits ≡ visits_room * visit_width
+  pub readings : length p.readings ≡ readings_room * reading_width
+  pub lines : length p.lines ≡ lines_room * line_width

@@ -1,88 +1,81 @@
--- A command step by step: the tables with what it drafts, and then its end.
-use Rattle.std.specs.Prelude.{ℕ, ◌+◌, ◌^◌, ◌<◌, ◌≤◌, max, List, length}
+-- A command step by step: what it drafts, and then its end.
+use Rattle.std.specs.Prelude.{◌≡◌, ℕ, ◌+◌, ◌<◌, ◌≤◌, List, length}
+use Rattle.visit.specs.declared.Clock.{Clock}
+use Rattle.visit.specs.declared.Line.{Line}
+use Rattle.visit.specs.declared.Reading.{Reading}
 use Rattle.visit.specs.declared.Terms.{Terms}
 use Rattle.visit.specs.declared.Visit.{Visit}
+use Rattle.visit.specs.Sums.{SumsFit, sums}
 use Rattle.visit.specs.Visits.{single}
 use Rattle.command.specs.declared.Command.{Command}
 use Rattle.command.specs.declared.Command.TheVariants.{Reading as AReading, Watermark}
 use Rattle.command.specs.Outcomes.{Outcome}
 use Rattle.model.specs.Sessions.{changes, difference, insert_reading}
-use Rattle.model.specs.Store.{Draft, Store, closed_after, closed_before, kept_only, live_only, merge_in, posted}
+use Rattle.model.specs.Store.{Draft, Store, closed_after, finish, merge_in}
+use Rattle.changes.specs.Out.{OutAfter}
 use Rattle.ledger.specs.Fits.{Fits}
-use Rattle.rows.specs.Lines.{lines_held, lines_in}
-use Rattle.rows.specs.Visits.{visits_held, visits_in}
-use Rattle.visit.specs.Sums.{counts, sums}
-use Rattle.rows.specs.Readings.{readings_held, readings_in}
+use Rattle.rows.specs.declared.row.Row.{Ghosts}
+use Rattle.rows.specs.declared.table.Table.{Table}
+use Rattle.rows.specs.Tables.{rows_of}
+use Rattle.store.specs.declared.checks.Ready.{Ready}
 use Rattle.store.specs.declared.header.Header.{Header}
-use Rattle.store.specs.Header.{Counted, header_cells}
+use Rattle.store.specs.Contents.{parts_after, store_of}
+use Rattle.store.specs.Header.{Counted}
 use Rattle.store.specs.Layout.{lines_room, readings_room, visits_room}
 use Rattle.store.specs.Parts.{Parts}
 
--- What a command that is not refused drafts.
-abbrev pub draft_of : Terms → Store → Command → Draft
-draft_of t s (AReading e) = record { live = merge_in t (single e) s.live; seen = insert_reading t e s.seen; watermark = s.watermark }
-draft_of t s (Watermark m) = record { live = s.live; seen = s.seen; watermark = m }
+-- Visits, readings and watermark as they stand in a store, and in tables.
+abbrev pub before : Store → Draft
+before s = record { live = s.live; seen = s.seen; watermark = s.watermark }
+
+abbrev pub standing : {v : Ghosts Visit} {r : Ghosts Reading} → Clock → Table Visit v → Table Reading r → Draft
+standing k vs es = record { live = rows_of vs; seen = rows_of es; watermark = k.watermark }
+
+-- What a command that is not refused makes of them.
+abbrev pub draft_of : Terms → Draft → Command → Draft
+draft_of t b (AReading e) = record { live = merge_in t (single e) b.live; seen = insert_reading t e b.seen; watermark = b.watermark }
+draft_of t b (Watermark m) = record { live = b.live; seen = b.seen; watermark = m }
+
+abbrev pub clock_by : Clock → Command → Clock
+clock_by k (AReading e) = k
+clock_by k (Watermark m) = record { terms = k.terms; watermark = m }
 
 -- What it changes.
-abbrev pub changes_of : Terms → Store → Draft → Outcome
-changes_of t s d = changes t (closed_before t s) (closed_after t d)
+abbrev pub changes_of : Terms → Draft → Command → Outcome
+changes_of t b c = changes t (closed_after t b) (closed_after t (draft_of t b c))
 
-abbrev pub gone_of : Terms → Store → Draft → List Visit
-gone_of t s d = difference t (closed_before t s) (closed_after t d)
+abbrev pub gone_of : Terms → Draft → Command → List Visit
+gone_of t b c = difference t (closed_after t b) (closed_after t (draft_of t b c))
 
-abbrev pub new_of : Terms → Store → Draft → List Visit
-new_of t s d = difference t (closed_after t d) (closed_before t s)
+abbrev pub new_of : Terms → Draft → Command → List Visit
+new_of t b c = difference t (closed_after t (draft_of t b c)) (closed_after t b)
 
--- What a command needs of the store, so that it can be drafted: room, and sums that fit in 64 bits; a watermark does not go back.
-abbrev pub Draftable : Header → Store → Command → Type 0
-Draftable h s (AReading e) =
-    (h.visits < visits_room) × (h.readings < readings_room) × (counts s.live + 1 < 2 ^ 64) × (sums s.live + e.amount < 2 ^ 64)
-Draftable h s (Watermark m) = h.clock.watermark ≤ m
+-- What a command needs, so that it can be drafted: room for a visit and for a reading, and sums that fit in 64 bits; a watermark does not go back.
+abbrev pub Draftable : (visit_room reading_room : Type 0) → Draft → Command → Type 0
+Draftable v r b (AReading e) = v × r × SumsFit b.live 1 e.amount
+Draftable v r b (Watermark m) = b.watermark ≤ m
 
 -- And so that it can be finished.
 pub record Performable (h : Header) (s : Store) (c : Command) : Type 0 where
   pub counts : Counted h
-  pub draftable : Draftable h s c
-  pub visits : length (draft_of h.clock.terms s c).live ≤ visits_room
-  pub readings : length (draft_of h.clock.terms s c).seen ≤ readings_room
-  pub lines : h.lines + length (new_of h.clock.terms s (draft_of h.clock.terms s c)) ≤ lines_room
-  pub fits : Fits (length (new_of h.clock.terms s (draft_of h.clock.terms s c))) (sums (new_of h.clock.terms s (draft_of h.clock.terms s c))) s.ledger
+  pub draftable : Draftable (h.visits < visits_room) (h.readings < readings_room) (before s) c
+  pub visits : length (draft_of h.clock.terms (before s) c).live ≤ visits_room
+  pub readings : length (draft_of h.clock.terms (before s) c).seen ≤ readings_room
+  pub lines : h.lines + length (new_of h.clock.terms (before s) c) ≤ lines_room
+  pub fits : Fits (length (new_of h.clock.terms (before s) c)) (sums (new_of h.clock.terms (before s) c)) s.ledger
 
--- The tables with the draft in them, and the header by which they are read. The header's own cells are written last.
-abbrev pub drafted_header : Header → Draft → Header
-drafted_header h d =
-    record { clock = record { terms = h.clock.terms; watermark = d.watermark }; visits = length d.live; readings = length d.seen; lines = h.lines }
+-- The header of tables.
+abbrev pub tables_header : {v : Ghosts Visit} {r : Ghosts Reading} {l : Ghosts Line} → Clock → Table Visit v → Table Reading r → Table Line l → Header
+tables_header k vs es ls = record { clock = k; visits = vs.len; readings = es.len; lines = ls.len }
 
-abbrev pub drafted_parts : Header → Draft → Parts → Parts
-drafted_parts h d p =
-    record {
-      header = p.header;
-      visits = visits_held (max h.visits (length d.live)) d.live p.visits;
-      readings = readings_held (max h.readings (length d.seen)) d.seen p.readings;
-      lines = p.lines;
-      rest = p.rest;
-    }
+-- A command carried out in the parts of a row.
+module _ (q : Ready) (p : Parts) where
+  abbrev pub draft_in : Draft
+  draft_in = draft_of q.header.clock.terms (before (store_of q.header p)) q.command
 
--- The end: the ledger by what was retracted and added, expiry, and the header.
-abbrev pub finished_lines : Header → List Visit → List Visit → Parts → List ℕ
-finished_lines h gone new p =
-    lines_held (max h.lines (length (posted h.clock.terms gone new (lines_in h.lines p.lines)))) (posted h.clock.terms gone new (lines_in h.lines p.lines)) p.lines
+  abbrev pub changes_in : Outcome
+  changes_in = changes_of q.header.clock.terms (before (store_of q.header p)) q.command
 
-abbrev pub finished_header : Header → List Visit → List Visit → Parts → Header
-finished_header h gone new p =
-    record {
-      clock = h.clock;
-      visits = length (live_only h.clock.terms h.clock.watermark (visits_in h.visits p.visits));
-      readings = length (kept_only h.clock.terms h.clock.watermark (readings_in h.readings p.readings));
-      lines = length (posted h.clock.terms gone new (lines_in h.lines p.lines));
-    }
-
-abbrev pub finished_parts : Header → List Visit → List Visit → Parts → Parts
-finished_parts h gone new p =
-    record {
-      header = header_cells (finished_header h gone new p);
-      visits = visits_held h.visits (live_only h.clock.terms h.clock.watermark (visits_in h.visits p.visits)) p.visits;
-      readings = readings_held h.readings (kept_only h.clock.terms h.clock.watermark (readings_in h.readings p.readings)) p.readings;
-      lines = finished_lines h gone new p;
-      rest = p.rest;
-    }
+  pub record Performed (after : Parts) (many : ℕ) (was row : List ℕ) : Type 0 where
+    pub parts : after ≡ parts_after q.header draft_in (finish q.header.clock.terms (store_of q.header p) draft_in) p
+    pub out : OutAfter changes_in many was row

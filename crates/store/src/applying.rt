@@ -1,67 +1,65 @@
-// A command done to a store in a borrowed row.
+// A command done to a store in a borrowed row of numbers, which is what callers have.
 ghost use Rattle.std.specs.Prelude.{◌≡◌, ◌≤◌, true, length};
-ghost use Rattle.changes.specs.Out.{outcome_count, outcome_row, overlay};
 ghost use Rattle.changes.specs.Room.{out_width};
-ghost use Rattle.model.specs.Store.{finish as Finish};
 ghost use Rattle.store.specs.Applied.{applied, full};
 ghost use Rattle.store.specs.Checks.{sound_row};
-ghost use Rattle.store.specs.Contents.{parts_after, store_of};
-ghost use Rattle.store.specs.Header.{Counted};
-ghost use Rattle.store.specs.Layout.{store_size};
-ghost use Rattle.store.specs.Parts.{parts};
-ghost use Rattle.store.specs.Steps.{Draftable, Performable, changes_of, draft_of, drafted_header, drafted_parts};
+ghost use Rattle.store.specs.Contents.{store_of};
+ghost use Rattle.store.specs.Parts.{Long, parts_from};
+ghost use Rattle.store.specs.Steps.{Performable, Performed};
 
 use crate::capacity::{Capacity, FULL};
-use crate::checks::{Ready, check};
-use crate::header::Header;
-use crate::steps::{Drafted, draft_reading, draft_watermark, finish};
-use command::{Command, Reply};
+use crate::checks::{Ready, check, check_sound};
+use crate::layout::{LINES_AT, READINGS_AT, STORE_SIZE, VISITS_AT};
+use crate::steps::{draft, finish};
+use command::Reply;
+use rows::out::ChangedRows;
+use rows::table::Table;
 
-fn draft(store: &mut [u64], header: Header, command: Command, out: &mut [u64]) -> Drafted
-    requires size { store_size ≤ length store.old }
-    requires counts { Counted header }
-    requires draftable { Draftable header (store_of header (parts store.old)) command }
+// How many visits changed. Cells and tables are parameters of their own, since the end of a loan is not followed through a struct of
+// several tables, nor to a table of cells that are cut in the same function.
+fn perform(
+    head: &mut [u64],
+    visits: &mut [u64],
+    readings: &mut [u64],
+    lines: &mut [u64],
+    ready: Ready,
+    out: &mut [u64],
+) -> usize
+    requires long { Long (parts_from head.old visits.old readings.old lines.old) }
+    requires performable { Performable ready.header (store_of ready.header (parts_from head.old visits.old readings.old lines.old)) ready.command }
     requires out { out_width ≤ length out.old }
-    ensures header { result.header ≡ drafted_header header (draft_of header.clock.terms (store_of header (parts store.old)) command) }
-    ensures changed { result.changed ≡ outcome_count (changes_of header.clock.terms (store_of header (parts store.old)) (draft_of header.clock.terms (store_of header (parts store.old)) command)) }
-    ensures parts { parts store.new ≡ drafted_parts header (draft_of header.clock.terms (store_of header (parts store.old)) command) (parts store.old) }
-    ensures out { out.new ≡ overlay (outcome_row (changes_of header.clock.terms (store_of header (parts store.old)) (draft_of header.clock.terms (store_of header (parts store.old)) command))) out.old }
+    ensures { Performed ready (parts_from head.old visits.old readings.old lines.old) (parts_from head.new visits.new readings.new lines.new) result out.old out.new }
 {
-    match command {
-        Command::Reading(reading) => draft_reading(store, header, reading, out),
-        Command::Watermark(watermark) => draft_watermark(store, header, watermark, out),
-    }
-}
-
-// How many visits changed.
-fn perform(store: &mut [u64], header: Header, command: Command, out: &mut [u64]) -> usize
-    requires size { store_size ≤ length store.old }
-    requires performable { Performable header (store_of header (parts store.old)) command }
-    requires out { out_width ≤ length out.old }
-    ensures changed { result ≡ outcome_count (changes_of header.clock.terms (store_of header (parts store.old)) (draft_of header.clock.terms (store_of header (parts store.old)) command)) }
-    ensures parts { parts store.new ≡ parts_after header (draft_of header.clock.terms (store_of header (parts store.old)) command) (Finish header.clock.terms (store_of header (parts store.old)) (draft_of header.clock.terms (store_of header (parts store.old)) command)) (parts store.old) }
-    ensures out { out.new ≡ overlay (outcome_row (changes_of header.clock.terms (store_of header (parts store.old)) (draft_of header.clock.terms (store_of header (parts store.old)) command))) out.old }
-{
-    let drafted = draft(store, header, command, out);
-    finish(store, drafted.header, out);
+    let Ready { header, command } = ready;
+    let mut visits = Table::new(visits, header.visits);
+    let mut readings = Table::new(readings, header.readings);
+    let mut lines = Table::new(lines, header.lines);
+    let drafted = draft(&mut visits, &mut readings, header.clock, command, out);
+    let changed = ChangedRows::read(out);
+    finish(
+        head,
+        &mut visits,
+        &mut readings,
+        &mut lines,
+        drafted.clock,
+        changed,
+    );
     drafted.changed
 }
 
-// Does a command, or leaves both rows as they were and says why. A row that is known to be a store is not looked through.
-pub fn apply_known(
-    capacity: Capacity,
-    store: &mut [u64],
-    known: bool,
-    row: &[u64],
-    out: &mut [u64],
-) -> Reply
-    requires { known ≡ true → sound_row store.old ≡ true }
+// Does a command to a row that is known to be a store, or leaves both rows as they were and says why.
+pub fn apply_sound(capacity: Capacity, store: &mut [u64], row: &[u64], out: &mut [u64]) -> Reply
+    requires { sound_row store.old ≡ true }
     ensures reply { result ≡ (applied capacity store.old row.now out.old).reply }
     ensures store { store.new ≡ (applied capacity store.old row.now out.old).store }
     ensures out { out.new ≡ (applied capacity store.old row.now out.old).out }
 {
-    let ready = check(capacity, store, known, row, out.len())?;
-    Ok(perform(store, ready.header, ready.command, out) as u64)
+    let ready = check(capacity, store, row, out.len())?;
+    let (head, rest) = store.split_at_mut(VISITS_AT);
+    let (visits, rest) = rest.split_at_mut(READINGS_AT - VISITS_AT);
+    let (readings, rest) = rest.split_at_mut(LINES_AT - READINGS_AT);
+    let (lines, _) = rest.split_at_mut(STORE_SIZE - LINES_AT);
+    Ok(perform(head, visits, readings, lines, ready, out) as u64)
 }
 
 // The same on any row, of which nothing is known.
@@ -70,7 +68,8 @@ pub fn apply_within(capacity: Capacity, store: &mut [u64], row: &[u64], out: &mu
     ensures store { store.new ≡ (applied capacity store.old row.now out.old).store }
     ensures out { out.new ≡ (applied capacity store.old row.now out.old).out }
 {
-    apply_known(capacity, store, false, row, out)
+    check_sound(store)?;
+    apply_sound(capacity, store, row, out)
 }
 
 // With all the room that the layout has.

@@ -14,6 +14,7 @@ pub struct Header {
     pub lines: usize,
 }
 
+// The one place where the cells of a header are listed.
 impl Row for Header {
     const WIDTH: usize = HEADER_WIDTH;
 

@@ -1,7 +1,6 @@
 // Where things stand in the store's row. Widths come from the rows, so a change of one is made there.
-use changes::out::{LIVE_MOST, NEAR_MOST};
+use changes::out::{LIVE_MOST, OUT_WIDTH};
 use rows::lines::LINE_WIDTH;
-use rows::out::OUT_HEAD;
 use rows::readings::READING_WIDTH;
 use rows::visits::VISIT_WIDTH;
 
@@ -22,4 +21,4 @@ pub const LINES_AT: usize = READINGS_AT + READINGS_ROOM * READING_WIDTH;
 pub const STORE_SIZE: usize = LINES_AT + LINES_ROOM * LINE_WIDTH;
 
 // Two counts, and room for what any command can change.
-pub const OUT_SIZE: usize = OUT_HEAD + (NEAR_MOST + VISITS_ROOM) * VISIT_WIDTH;
+pub const OUT_SIZE: usize = OUT_WIDTH;

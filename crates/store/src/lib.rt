@@ -6,7 +6,6 @@ pub mod capacity;
 mod checks;
 pub mod header;
 pub mod layout;
-mod lent;
 pub mod opening;
 mod steps;
-mod tables;
+mod view;

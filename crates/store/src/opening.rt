@@ -6,11 +6,11 @@ ghost use Rattle.store.specs.Layout.{store_size};
 
 use crate::header::Header;
 use crate::layout::{STORE_SIZE, VISITS_AT};
-use crate::tables::put_header;
 use command::{Refusal, Reply, check_terms};
+use rows::row::Row;
 use visit::{Clock, Terms};
 
-// The terms as they are given, and 0 at every other place of the layout.
+// The terms as they are given, and 0 at every other place of the layout. The length is asked for, since the row is not yet a store.
 pub fn clear(store: &mut [u64], terms: Terms)
     requires { store_size ≤ length store.old }
     ensures { store.new ≡ empty_row terms store.old }
@@ -25,7 +25,7 @@ pub fn clear(store: &mut [u64], terms: Terms)
         readings: 0,
         lines: 0,
     };
-    put_header(store, header);
+    header.write(&mut store[0..VISITS_AT]);
 }
 
 // A refusal leaves the row as it was.

@@ -1,115 +1,111 @@
 // The steps of a command that has passed every check.
-ghost use Rattle.std.specs.Prelude.{◌≡◌, ◌+◌, ◌^◌, ◌<◌, ◌≤◌, length};
-ghost use Rattle.changes.specs.Out.{outcome_count, outcome_row, overlay};
-ghost use Rattle.changes.specs.Room.{out_width};
-ghost use Rattle.command.specs.declared.Command.TheVariants.{Reading as AReading, Watermark};
-ghost use Rattle.visit.specs.Sums.{sums as added_sums, counts, sums};
+ghost use Rattle.std.specs.Prelude.{◌≡◌, ◌+◌, max, length};
+ghost use Rattle.changes.specs.Changed.{merging};
+ghost use Rattle.changes.specs.Out.{OutAfter, OutHolds};
 ghost use Rattle.ledger.specs.Fits.{Fits};
-ghost use Rattle.rows.specs.Out.{gone_in, new_count, new_in, out_end, out_head};
-ghost use Rattle.rows.specs.Lines.{lines_in};
-ghost use Rattle.rows.specs.Visits.{visits_in};
-ghost use Rattle.store.specs.Contents.{store_of};
-ghost use Rattle.store.specs.Header.{Counted};
-ghost use Rattle.store.specs.Layout.{lines_room, readings_room, store_size, visits_room};
-ghost use Rattle.store.specs.Parts.{parts};
-ghost use Rattle.store.specs.Steps.{changes_of, draft_of, drafted_header, drafted_parts, finished_parts};
+ghost use Rattle.model.specs.Sessions.{insert_reading};
+ghost use Rattle.model.specs.Store.{kept_only, live_only, merge_in, posted};
+ghost use Rattle.rows.specs.Tables.{Becomes, HasRoom, rows_of, rows_seen};
+ghost use Rattle.store.specs.Header.{header_cells};
+ghost use Rattle.store.specs.Layout.{header_width};
+ghost use Rattle.store.specs.Steps.{Draftable, changes_of, clock_by, draft_of, standing, tables_header};
+ghost use Rattle.visit.specs.Sums.{SumsFit, sums};
+ghost use Rattle.visit.specs.Visits.{single};
 
 use crate::header::Header;
-use crate::layout::{READINGS_AT, VISITS_AT};
-use crate::tables::{
-    expire_readings, expire_visits, insert_reading, place, post, put_header, set_aside,
-};
 use changes::reading::by_reading;
 use changes::watermark::by_watermark;
-use rows::table::Rows;
-use visit::{Clock, Reading};
+use command::Command;
+use ledger::posting::post;
+use live::merging::{place, set_aside};
+use rows::out::ChangedRows;
+use rows::row::Row;
+use rows::table::Table;
+use visit::{Clock, Line, Reading, Visit};
 
-// The header that the tables have before anything expires, and how many visits changed.
+// The clock after a command, and how many visits changed.
 #[derive(Clone, Copy)]
 pub struct Drafted {
-    pub header: Header,
+    pub clock: Clock,
     pub changed: usize,
 }
 
-// The reading's own visit goes among the live ones, and the reading among the kept ones. What changes is worked out
+// The reading's own visit goes among the live ones, and the reading among the kept ones: how many visits changed. That is worked out
 // while the visits that it took in still stand behind the others.
-pub fn draft_reading(
-    store: &mut [u64],
-    header: Header,
+fn draft_reading(
+    visits: &mut Table<'_, Visit>,
+    readings: &mut Table<'_, Reading>,
+    clock: Clock,
     reading: Reading,
     out: &mut [u64],
-) -> Drafted
-    requires size { store_size ≤ length store.old }
-    requires visits { header.visits < visits_room }
-    requires readings { header.readings < readings_room }
-    requires count { counts (visits_in header.visits (parts store.old).visits) + 1 < 2 ^ 64 }
-    requires sum { sums (visits_in header.visits (parts store.old).visits) + reading.amount < 2 ^ 64 }
-    requires out { out_width ≤ length out.old }
-    ensures header { result.header ≡ drafted_header header (draft_of header.clock.terms (store_of header (parts store.old)) (AReading reading)) }
-    ensures changed { result.changed ≡ outcome_count (changes_of header.clock.terms (store_of header (parts store.old)) (draft_of header.clock.terms (store_of header (parts store.old)) (AReading reading))) }
-    ensures parts { parts store.new ≡ drafted_parts header (draft_of header.clock.terms (store_of header (parts store.old)) (AReading reading)) (parts store.old) }
-    ensures out { out.new ≡ overlay (outcome_row (changes_of header.clock.terms (store_of header (parts store.old)) (draft_of header.clock.terms (store_of header (parts store.old)) (AReading reading)))) out.old }
+) -> usize
+    requires visits { HasRoom visits.old 1 }
+    requires readings { HasRoom readings.old 1 }
+    requires fits { SumsFit (rows_of visits.old) 1 reading.amount }
+    requires out { OutHolds (visits.old.len + 1) out.old }
+    ensures visits { Becomes visits.old visits.new (max visits.old.len visits.new.len) (merge_in clock.terms (single reading) (rows_of visits.old)) }
+    ensures readings { Becomes readings.old readings.new (readings.old.len + 1) (insert_reading clock.terms reading (rows_of readings.old)) }
+    ensures out { OutAfter (merging clock.terms clock.watermark (single reading) (rows_of visits.old)) result out.old out.new }
 {
-    let n = header.visits;
-    let placed = set_aside(store, n, reading.single(), header.clock.terms);
-    let visits = Rows::new(&store[VISITS_AT..READINGS_AT], n);
-    let changed = by_reading(visits, placed, header.clock, out);
-    let count = place(store, n, placed);
-    insert_reading(store, header.readings, reading, header.clock.terms);
-    Drafted {
-        header: Header {
-            visits: count,
-            readings: header.readings + 1,
-            ..header
-        },
-        changed,
-    }
+    let placed = set_aside(visits, reading.single(), clock.terms);
+    let changed = by_reading(visits.rows(), placed, clock, out);
+    place(visits, placed);
+    seen::insert(readings, reading, clock.terms);
+    changed
 }
 
-// The live visits and the kept readings stay; what changes comes of the two watermarks.
-pub fn draft_watermark(store: &[u64], header: Header, watermark: u64, out: &mut [u64]) -> Drafted
-    requires size { store_size ≤ length store.now }
-    requires counts { Counted header }
-    requires order { header.clock.watermark ≤ watermark }
-    requires out { out_width ≤ length out.old }
-    ensures header { result.header ≡ drafted_header header (draft_of header.clock.terms (store_of header (parts store.now)) (Watermark watermark)) }
-    ensures changed { result.changed ≡ outcome_count (changes_of header.clock.terms (store_of header (parts store.now)) (draft_of header.clock.terms (store_of header (parts store.now)) (Watermark watermark))) }
-    ensures parts { parts store.now ≡ drafted_parts header (draft_of header.clock.terms (store_of header (parts store.now)) (Watermark watermark)) (parts store.now) }
-    ensures out { out.new ≡ overlay (outcome_row (changes_of header.clock.terms (store_of header (parts store.now)) (draft_of header.clock.terms (store_of header (parts store.now)) (Watermark watermark)))) out.old }
+// What a command makes of the tables before anything expires. A watermark leaves them as they are.
+pub fn draft(
+    visits: &mut Table<'_, Visit>,
+    readings: &mut Table<'_, Reading>,
+    clock: Clock,
+    command: Command,
+    out: &mut [u64],
+) -> Drafted
+    requires draftable { Draftable (HasRoom visits.old 1) (HasRoom readings.old 1) (standing clock visits.old readings.old) command }
+    requires out { OutHolds (visits.old.len + 1) out.old }
+    ensures clock { result.clock ≡ clock_by clock command }
+    ensures visits { Becomes visits.old visits.new (max visits.old.len visits.new.len) (draft_of clock.terms (standing clock visits.old readings.old) command).live }
+    ensures readings { Becomes readings.old readings.new (max readings.old.len readings.new.len) (draft_of clock.terms (standing clock visits.old readings.old) command).seen }
+    ensures out { OutAfter (changes_of clock.terms (standing clock visits.old readings.old) command) result.changed out.old out.new }
 {
-    let visits = Rows::new(&store[VISITS_AT..READINGS_AT], header.visits);
-    let changed = by_watermark(visits, header.clock, watermark, out);
-    Drafted {
-        header: Header {
-            clock: Clock {
-                watermark,
-                ..header.clock
-            },
-            ..header
+    match command {
+        Command::Reading(reading) => Drafted {
+            clock,
+            changed: draft_reading(visits, readings, clock, reading, out),
         },
-        changed,
+        Command::Watermark(watermark) => Drafted {
+            clock: Clock { watermark, ..clock },
+            changed: by_watermark(visits.rows(), clock, watermark, out),
+        },
     }
 }
 
 // One end for every kind of command: the ledger by what has changed, then what has expired goes, then the header.
-pub fn finish(store: &mut [u64], header: Header, out: &[u64])
-    requires size { store_size ≤ length store.old }
-    requires visits { header.visits ≤ visits_room }
-    requires readings { header.readings ≤ readings_room }
-    requires counts { out_head ≤ length out.now }
-    requires within { out_end out.now ≤ length out.now }
-    requires lines { header.lines + new_count out.now ≤ lines_room }
-    requires fits { Fits (new_count out.now) (added_sums (new_in out.now)) (lines_in header.lines (parts store.old).lines) }
-    ensures { parts store.new ≡ finished_parts header (gone_in out.now) (new_in out.now) (parts store.old) }
+pub fn finish(
+    head: &mut [u64],
+    visits: &mut Table<'_, Visit>,
+    readings: &mut Table<'_, Reading>,
+    lines: &mut Table<'_, Line>,
+    clock: Clock,
+    changed: ChangedRows<'_>,
+)
+    requires head { length head.old ≡ header_width }
+    requires room { HasRoom lines.old changed.added.len }
+    requires fits { Fits changed.added.len (sums (rows_seen changed.added)) (rows_of lines.old) }
+    ensures head { head.new ≡ header_cells (tables_header clock visits.new readings.new lines.new) }
+    ensures visits { Becomes visits.old visits.new visits.old.len (live_only clock.terms clock.watermark (rows_of visits.old)) }
+    ensures readings { Becomes readings.old readings.new readings.old.len (kept_only clock.terms clock.watermark (rows_of readings.old)) }
+    ensures lines { Becomes lines.old lines.new (max lines.old.len lines.new.len) (posted clock.terms (rows_seen changed.entry.retracted) (rows_seen changed.entry.added) (rows_of lines.old)) }
 {
-    let lines = post(store, header.lines, out, header.clock.terms);
-    let visits = expire_visits(store, header.visits, header.clock);
-    let readings = expire_readings(store, header.readings, header.clock);
-    let finished = Header {
-        clock: header.clock,
-        visits,
-        readings,
-        lines,
+    post(lines, changed, clock.terms);
+    live::expiry::expire(visits, clock);
+    seen::expire(readings, clock);
+    let header = Header {
+        clock,
+        visits: visits.len,
+        readings: readings.len,
+        lines: lines.len,
     };
-    put_header(store, finished);
+    header.write(head);
 }

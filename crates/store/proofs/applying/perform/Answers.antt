@@ -1,38 +1,81 @@
-use Rattle.std.proofs.Common.{ap, arith}
-use Rattle.store.specs.declared.header.Header.{Header}
+use Rattle.std.proofs.Common.{◌≡◌, max, length, refl, ap, ◌∙◌, subst, arith}
+use Rattle.visit.specs.declared.Clock.{Clock}
+use Rattle.visit.specs.Readings.{kept}
+use Rattle.visit.specs.Visits.{live}
+use Rattle.model.specs.Store.{Draft, finish, kept_only, live_only, posted}
+use Rattle.model.proofs.Common.{kept_shorter}
+use Rattle.changes.specs.Out.{OutAfter, outcome_row, overlay}
+use Rattle.rows.specs.Out.{new_count}
+use Rattle.rows.specs.Tables.{rows_of, rows_seen}
+use Rattle.rows.proofs.Becoming.{becomes_as, becomes_len}
 use Rattle.store.specs.Contents.{store_of}
-use Rattle.store.specs.Parts.{parts}
-use Rattle.store.specs.Steps.{draft_of}
-use Rattle.store.proofs.Ending.{ended, lines_fit, new_counted, row_within}
+use Rattle.store.specs.Parts.{parts_from}
+use Rattle.store.specs.Steps.{before, changes_of, draft_of, gone_of, new_of}
+use Rattle.store.proofs.Ending.{clock_after, filtered, gone_read, held_in, new_read, parts_are, row_within, stands}
+use Rattle.store.proofs.Views.{rows_at}
 use Rattle.store.proofs.applying.perform.Goals as goal
 
-pub finish-requires : goal.finish-requires
-finish-requires c =
-    let h = c.args.header in
-    let p = parts c.args.store.now in
-    let d = draft_of h.clock.terms (store_of h p) c.args.command in
-    let k = c.draft-drafted.result.header in
-    let q = parts c.draft-drafted.new.store in
-    let head = c.draft-drafted.ensures.header in
+pub read-changed-requires-clause-within : goal.read-changed-requires-clause-within
+read-changed-requires-clause-within c =
+    let q = c.args.ready in
+    let k = q.header.clock in
+    let p = parts_from c.args.head.now c.args.visits.now c.args.readings.now c.args.lines.now in
+    let b = before (store_of q.header p) in
+    let is = stands k c.new-visits.result c.new-readings.result q.header.visits q.header.readings p.visits p.readings c.new-visits.ensures.cells c.new-visits.ensures.len c.new-readings.ensures.cells c.new-readings.ensures.len in
+    let written = c.draft-drafted.ensures.out.out ∙ ap (λ (x : Draft). overlay (outcome_row (changes_of k.terms x q.command)) c.args.out.now) is in
+    row_within (gone_of k.terms b q.command) (new_of k.terms b q.command) c.args.out.now c.draft-drafted.new.out written
+
+pub finish-requires-clause-fits : goal.finish-requires-clause-fits
+finish-requires-clause-fits c =
+    let q = c.args.ready in
+    let k = q.header.clock in
+    let p = parts_from c.args.head.now c.args.visits.now c.args.readings.now c.args.lines.now in
+    let b = before (store_of q.header p) in
+    let is = stands k c.new-visits.result c.new-readings.result q.header.visits q.header.readings p.visits p.readings c.new-visits.ensures.cells c.new-visits.ensures.len c.new-readings.ensures.cells c.new-readings.ensures.len in
+    let written = c.draft-drafted.ensures.out.out ∙ ap (λ (x : Draft). overlay (outcome_row (changes_of k.terms x q.command)) c.args.out.now) is in
     let row = c.draft-drafted.new.out in
-    record {
-      size = omega arith;
-      visits = omega (arith, ap (λ (x : Header). x.visits) head, c.requires.performable.visits);
-      readings = omega (arith, ap (λ (x : Header). x.readings) head, c.requires.performable.readings);
-      counts = omega arith;
-      within = row_within h d p q k c.args.out.now row head c.draft-drafted.ensures.parts c.draft-drafted.ensures.out;
-      lines = omega (arith, ap (λ (x : Header). x.lines) head, new_counted h d p q k c.args.out.now row head c.draft-drafted.ensures.parts c.draft-drafted.ensures.out, c.requires.performable.lines);
-      fits = lines_fit h d p q k c.args.out.now row head c.draft-drafted.ensures.parts c.draft-drafted.ensures.out c.requires.performable.fits;
-    }
+    let new = new_of k.terms b q.command in
+    let changed = c.read-changed.result in
+    let added : rows_seen changed.added ≡ new = c.read-changed.ensures.added ∙ new_read (gone_of k.terms b q.command) new c.args.out.now row written in
+    let many : changed.added.len ≡ length new = c.read-changed.ensures.added_len ∙ ap new_count written in
+    rw (added, many, rows_at c.new-lines.result q.header.lines p.lines c.new-lines.ensures.cells c.new-lines.ensures.len) c.requires.performable.fits
 
 pub returns : goal.returns
 returns c =
-    let h = c.args.header in
-    let p = parts c.args.store.now in
-    let d = draft_of h.clock.terms (store_of h p) c.args.command in
+    let q = c.args.ready in
+    let h = q.header in
+    let k = h.clock in
+    let t = k.terms in
+    let p = parts_from c.args.head.now c.args.visits.now c.args.readings.now c.args.lines.now in
+    let b = before (store_of h p) in
+    let d = draft_of t b q.command in
+    let end = finish t (store_of h p) d in
+    let gone = gone_of t b q.command in
+    let new = new_of t b q.command in
+    let row = c.draft-drafted.new.out in
+    let is = stands k c.new-visits.result c.new-readings.result h.visits h.readings p.visits p.readings c.new-visits.ensures.cells c.new-visits.ensures.len c.new-readings.ensures.cells c.new-readings.ensures.len in
+    let after = subst (λ (x : Draft). OutAfter (changes_of t x q.command) c.draft-drafted.result.changed c.args.out.now row) is c.draft-drafted.ensures.out in
+    let written = after.out in
+    let clock = c.draft-drafted.ensures.clock ∙ clock_after k b q.command refl in
+    let visits = filtered (live_only t d.watermark) d.live (kept_shorter (live t d.watermark))
+    (becomes_as c.draft-drafted.ensures.visits refl (ap (λ (x : Draft). (draft_of t x q.command).live) is))
+    (becomes_as c.finish.ensures.visits refl (ap (λ (x : Clock). live_only x.terms x.watermark (rows_of c.draft-drafted.new.visits)) clock)) in
+    let readings = filtered (kept_only t d.watermark) d.seen (kept_shorter (kept t d.watermark))
+    (becomes_as c.draft-drafted.ensures.readings refl (ap (λ (x : Draft). (draft_of t x q.command).seen) is))
+    (becomes_as c.finish.ensures.readings refl (ap (λ (x : Clock). kept_only x.terms x.watermark (rows_of c.draft-drafted.new.readings)) clock)) in
+    let changed = c.read-changed.result in
+    let ledger : posted c.draft-drafted.result.clock.terms (rows_seen changed.retracted) (rows_seen changed.added) (rows_of c.new-lines.result) ≡ end.ledger =
+    ap (λ (x : Clock). posted x.terms (rows_seen changed.retracted) (rows_seen changed.added) (rows_of c.new-lines.result)) clock
+    ∙ ap (λ l. posted t l (rows_seen changed.added) (rows_of c.new-lines.result)) (c.read-changed.ensures.retracted ∙ gone_read gone new c.args.out.now row written)
+    ∙ ap (λ l. posted t gone l (rows_of c.new-lines.result)) (c.read-changed.ensures.added ∙ new_read gone new c.args.out.now row written)
+    ∙ ap (posted t gone new) (rows_at c.new-lines.result h.lines p.lines c.new-lines.ensures.cells c.new-lines.ensures.len) in
+    let many : c.finish.new.lines.len ≡ length end.ledger = becomes_len c.finish.ensures.lines ∙ ap length ledger in
+    let lines = becomes_as c.finish.ensures.lines (ap (max c.new-lines.result.len) many) ledger in
     record {
-      changed = c.draft-drafted.ensures.changed;
-      parts = ended h d p (parts c.draft-drafted.new.store) c.draft-drafted.result.header c.args.out.now c.draft-drafted.new.out
-          c.draft-drafted.ensures.header c.draft-drafted.ensures.parts c.draft-drafted.ensures.out (parts c.finish.new.store) c.finish.ensures;
-      out = c.draft-drafted.ensures.out;
+      parts = parts_are q p c.draft-drafted.result.clock c.finish.new.visits.len c.finish.new.readings.len c.finish.new.lines.len clock
+          (becomes_len visits) (becomes_len readings) many c.finish.ensures.head
+          (grind (arith, visits.same) ∙ held_in h.visits (length d.live) p.visits end.live c.new-visits.ensures.cells c.new-visits.ensures.len visits)
+          (grind (arith, readings.same) ∙ held_in h.readings (length d.seen) p.readings end.seen c.new-readings.ensures.cells c.new-readings.ensures.len readings)
+          (grind (arith, lines.same) ∙ held_in h.lines (length end.ledger) p.lines end.ledger c.new-lines.ensures.cells c.new-lines.ensures.len lines);
+      out = after;
     }

@@ -1,57 +1,47 @@
-use Rattle.std.proofs.Common.{max, length, refl, ap, ◌∙◌, arith}
+use Rattle.std.proofs.Common.{◌≡◌, List, ◌++◌, refl, ap, ◌∙◌, subst, arith}
+use Rattle.visit.specs.declared.Clock.{Clock}
+use Rattle.visit.specs.declared.Reading.{Reading}
 use Rattle.visit.specs.declared.Visit.{Visit}
+use Rattle.visit.specs.Visits.{single}
 use Rattle.model.specs.Store.{merge_in}
-use Rattle.rows.specs.Visits.{visits_held, visits_in}
+use Rattle.rows.specs.Tables.{rows_of}
+use Rattle.rows.proofs.Becoming.{becomes_as}
+use Rattle.live.specs.declared.merging.Placed.{Placed}
+use Rattle.live.specs.Walk.{left_over, placed_of, taken_in}
 use Rattle.changes.specs.Changed.{compared, merging}
-use Rattle.changes.specs.Out.{outcome_count, outcome_row, overlay}
-use Rattle.store.specs.Parts.{parts, with_visits}
-use Rattle.store.proofs.Drafting.{changes_found, drafted_counts, drafted_reading, merged_count, merged_parts, others_few, place_fits}
+use Rattle.changes.specs.Out.{OutAfter}
+use Rattle.changes.proofs.Merging.{by_comparing}
+use Rattle.live.proofs.Placing.{merged, others_few, place_fits, room_stays, same_len}
 use Rattle.store.proofs.Views.{seen_at}
 use Rattle.store.proofs.steps.draft_reading.Goals as goal
 
+-- What is found by comparing is what merging the reading's visit changes.
+found : (k : Clock) (e : Reading) {v : Visit} {p : Placed} (vs : List Visit) {rows : List Visit} → v ≡ single e → p ≡ placed_of k.terms v vs → rows ≡ left_over k.terms v vs ++ taken_in k.terms v vs
+    → compared k.terms k.watermark p rows ≡ merging k.terms k.watermark (single e) vs
+found k e {v} {p} vs {rows} one place aside = by_comparing k.terms k.watermark v vs p rows place aside ∙ ap (λ (u : Visit). merging k.terms k.watermark u vs) one
+
 pub by_reading-changed-requires : goal.by_reading-changed-requires
 by_reading-changed-requires c =
-    let p = parts c.args.store.now in
-    let s = c.set_aside-placed.new.store in
-    let others = others_few c.args.header c.single.result p (parts s) c.set_aside-placed.result (visits_in c.args.header.visits p.visits) refl c.set_aside-placed.ensures.placed c.set_aside-placed.ensures.parts in
-    record { place = omega (arith, others, c.new-visits.ensures.len); room = omega (arith, c.new-visits.ensures.len) }
+    let is = c.set_aside-placed.ensures.placed in
+    let aside = c.set_aside-placed.ensures.after in
+    record { place = omega (arith, others_few c.args.clock.terms c.single.result is aside, c.rows.ensures.len); room = omega (arith, same_len c.args.clock.terms c.single.result is aside, c.rows.ensures.len, c.requires.out) }
 
-pub place-count-requires : goal.place-count-requires
-place-count-requires c =
-    let p = parts c.args.store.now in
-    let s = c.set_aside-placed.new.store in
-    let vs = visits_in c.args.header.visits p.visits in
-    record {
-      size = omega arith;
-      place = place_fits c.args.header c.single.result p (parts s) c.set_aside-placed.result vs refl c.set_aside-placed.ensures.placed c.set_aside-placed.ensures.parts;
-      few = others_few c.args.header c.single.result p (parts s) c.set_aside-placed.result vs refl c.set_aside-placed.ensures.placed c.set_aside-placed.ensures.parts;
-      room = c.requires.visits;
-    }
+pub place-requires : goal.place-requires
+place-requires c =
+    let is = c.set_aside-placed.ensures.placed in
+    let aside = c.set_aside-placed.ensures.after in
+    record { place = place_fits c.args.clock.terms c.single.result is aside; few = others_few c.args.clock.terms c.single.result is aside; room = room_stays c.args.clock.terms c.single.result is aside c.requires.visits }
 
-pub overflow_add-result : goal.overflow_add-result
-overflow_add-result c = omega arith
+pub returns-clause-visits : goal.returns-clause-visits
+returns-clause-visits c =
+    let k = c.args.clock in
+    becomes_as (merged k.terms c.single.result c.set_aside-placed.ensures.placed c.set_aside-placed.ensures.after c.place.new.table c.place.ensures.after) refl
+    (ap (λ (u : Visit). merge_in k.terms u (rows_of c.args.visits.now)) c.single.ensures)
 
-pub returns : goal.returns
-returns c =
-    let h = c.args.header in
-    let t = h.clock.terms in
-    let e = c.args.reading in
-    let v = c.single.result in
-    let p = parts c.args.store.now in
-    let q = parts c.set_aside-placed.new.store in
-    let r = parts c.place-count.new.store in
-    let placed = c.set_aside-placed.result in
-    let vs = visits_in h.visits p.visits in
-    let seen = seen_at c.new-visits.result h.visits q.visits c.new-visits.ensures.cells c.new-visits.ensures.len in
-    let found = ap (compared t h.clock.watermark placed) seen ∙ changes_found h v p q placed vs refl c.set_aside-placed.ensures.placed c.set_aside-placed.ensures.parts
-    ∙ ap (λ (u : Visit). merging t h.clock.watermark u vs) c.single.ensures in
-    let many = c.place-count.ensures.many ∙ merged_count h v p q placed vs refl c.set_aside-placed.ensures.placed c.set_aside-placed.ensures.parts
-    ∙ ap (λ (u : Visit). length (merge_in t u vs)) c.single.ensures in
-    let merged = merged_parts h v p q placed vs refl c.set_aside-placed.ensures.placed c.set_aside-placed.ensures.parts r c.place-count.ensures.parts
-    ∙ ap (λ (u : Visit). with_visits (visits_held (max h.visits (length (merge_in t u vs))) (merge_in t u vs) p.visits) p) c.single.ensures in
-    record {
-      header = drafted_counts h e p c.place-count.result many;
-      changed = c.by_reading-changed.ensures.many ∙ ap outcome_count found;
-      parts = drafted_reading h e p r (parts c.insert_reading.new.store) merged c.insert_reading.ensures;
-      out = c.by_reading-changed.ensures.out ∙ ap (λ o. overlay (outcome_row o) c.args.out.now) found;
-    }
+pub returns-clause-out : goal.returns-clause-out
+returns-clause-out c =
+    let vs = rows_of c.args.visits.now in
+    let mid = c.set_aside-placed.new.table in
+    let seen = seen_at c.rows.result mid.len mid.cells.now c.rows.ensures.cells c.rows.ensures.len in
+    subst (λ o. OutAfter o c.by_reading-changed.result c.args.out.now c.by_reading-changed.new.out)
+    (found c.args.clock c.args.reading vs c.single.ensures c.set_aside-placed.ensures.placed (seen ∙ c.set_aside-placed.ensures.after.rows)) c.by_reading-changed.ensures
