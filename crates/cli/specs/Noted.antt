@@ -1,8 +1,9 @@
 -- The options after one word more.
-use Rattle.std.specs.Prelude.{ℕ, true, false, List, Some, None, Ok, Err, codes, Option, Result, String}
+use Rattle.std.specs.Prelude.{◌≡◌, ℕ, true, false, List, Some, None, Ok, Err, codes, Option, Result, String, string_bytes}
 use Rattle.std.specs.declared.alloc.Global.{Global}
 use Rattle.cli.specs.declared.flags.Flag.{Flag}
-use Rattle.cli.specs.declared.flags.Flag.TheVariants.{Help, Version, Strict, Unpack, Unknown, Name}
+use Rattle.cli.specs.declared.flags.Flag.TheVariants.{Help, Version, Strict, Unpack, Name}
+use Rattle.cli.specs.Flags.{Reads}
 use Rattle.cli.specs.declared.options.Options.{Options}
 use Rattle.cli.specs.declared.options.Usage.{Usage}
 use Rattle.cli.specs.declared.options.Usage.TheVariants.{UnknownOption, TwoFiles}
@@ -12,13 +13,18 @@ abbrev pub with_file : Options → Option (String Global) → String Global → 
 with_file o None word = Ok (record { help = o.help; version = o.version; strict = o.strict; unpack = o.unpack; file = Some word })
 with_file o (Some other) word = Err TwoFiles
 
-abbrev pub noted : Options → String Global → Flag → Result Options Usage
-noted o word Help = Ok (record { help = true; version = o.version; strict = o.strict; unpack = o.unpack; file = o.file })
-noted o word Version = Ok (record { help = o.help; version = true; strict = o.strict; unpack = o.unpack; file = o.file })
-noted o word Strict = Ok (record { help = o.help; version = o.version; strict = true; unpack = o.unpack; file = o.file })
-noted o word Unpack = Ok (record { help = o.help; version = o.version; strict = o.strict; unpack = true; file = o.file })
-noted o word Unknown = Err UnknownOption
-noted o word Name = with_file o o.file word
+-- A word that is refused leaves no options.
+abbrev pub noted : Options → String Global → Result Flag Usage → Result Options Usage
+noted o word (Err e) = Err e
+noted o word (Ok Help) = Ok (record { help = true; version = o.version; strict = o.strict; unpack = o.unpack; file = o.file })
+noted o word (Ok Version) = Ok (record { help = o.help; version = true; strict = o.strict; unpack = o.unpack; file = o.file })
+noted o word (Ok Strict) = Ok (record { help = o.help; version = o.version; strict = true; unpack = o.unpack; file = o.file })
+noted o word (Ok Unpack) = Ok (record { help = o.help; version = o.version; strict = o.strict; unpack = true; file = o.file })
+noted o word (Ok Name) = with_file o o.file word
+
+-- What is noted of a word is what it is read as.
+abbrev pub Notes : Options → String Global → Result Options Usage → Type 0
+Notes o word r = (flag : Result Flag Usage) × Reads (string_bytes word) flag × (r ≡ noted o word flag)
 
 abbrev pub no_options : Options
 no_options = record { help = false; version = false; strict = false; unpack = false; file = None }

@@ -1,6 +1,8 @@
 // Words of the command line.
-ghost use Rattle.cli.specs.Flags.{Means};
+ghost use Rattle.cli.specs.Flags.{Reads};
 ghost use Rattle.std.specs.Prelude.{◌≡◌, ◌==◌, slice_index};
+
+use crate::options::Usage;
 
 #[derive(Clone, Copy, PartialEq, Eq, Debug)]
 pub enum Flag {
@@ -8,7 +10,6 @@ pub enum Flag {
     Version,
     Strict,
     Unpack,
-    Unknown,
     Name,
 }
 
@@ -18,17 +19,19 @@ fn is_option(word: &[u8]) -> bool
     word.starts_with(b"-")
 }
 
-impl From<&str> for Flag {
-    ghost from_gives = { λ word flag. Means word.now flag };
+impl TryFrom<&str> for Flag {
+    type Error = Usage;
 
-    fn from(word: &str) -> Flag {
+    ghost try_from_gives = { λ word r. Reads word.now r };
+
+    fn try_from(word: &str) -> Result<Flag, Usage> {
         match word {
-            "--help" => Flag::Help,
-            "--version" => Flag::Version,
-            "--strict" => Flag::Strict,
-            "--unpack" => Flag::Unpack,
-            _ if is_option(word.as_bytes()) => Flag::Unknown,
-            _ => Flag::Name,
+            "--help" => Ok(Flag::Help),
+            "--version" => Ok(Flag::Version),
+            "--strict" => Ok(Flag::Strict),
+            "--unpack" => Ok(Flag::Unpack),
+            _ if is_option(word.as_bytes()) => Err(Usage::UnknownOption),
+            _ => Ok(Flag::Name),
         }
     }
 }

@@ -70,6 +70,7 @@ fn attempt<T: Tool>(rt: &HostRuntime) -> Result<(), Failure> {
         println!(rt; "{name} {VERSION}")?;
         return Ok(());
     }
+    // `map_err` would move `options.file` into its closure, and the options are used below.
     let file = match input(rt, &options.file) {
         Ok(file) => file,
         Err(error) => return Err(Failure {

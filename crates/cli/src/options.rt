@@ -1,14 +1,12 @@
 // The options of a run.
-ghost use Rattle.cli.specs.Flags.{Means};
-ghost use Rattle.cli.specs.Noted.{no_options, noted as Noted, usage_text};
-ghost use Rattle.cli.specs.declared.flags.Flag.{Flag as AFlag};
-ghost use Rattle.std.specs.Prelude.{◌≡◌, Some, string_bytes};
+ghost use Rattle.cli.specs.Noted.{Notes, no_options, usage_text};
+ghost use Rattle.std.specs.Prelude.{◌≡◌, Some};
 
 use crate::flags::Flag;
 use std::error::Error;
 use std::fmt;
 
-#[derive(Debug, Drop)]
+#[derive(Debug, Default, Drop)]
 pub struct Options {
     pub help: bool,
     pub version: bool,
@@ -38,23 +36,18 @@ impl fmt::Display for Usage {
 impl Error for Usage {}
 
 impl Options {
+    // A derive has no place for a clause.
     pub fn none() -> Options
         ensures { result ≡ no_options }
     {
-        Options {
-            help: false,
-            version: false,
-            strict: false,
-            unpack: false,
-            file: None,
-        }
+        Options::default()
     }
 
     // The options with one word more.
     pub fn noted(self, word: String) -> Result<Options, Usage>
-        ensures { (f : AFlag) × Means (string_bytes word) f × (result ≡ Noted self word f) }
+        ensures { Notes self word result }
     {
-        match Flag::from(word.as_str()) {
+        match Flag::try_from(word.as_str())? {
             Flag::Help => Ok(Options { help: true, ..self }),
             Flag::Version => Ok(Options {
                 version: true,
@@ -68,7 +61,6 @@ impl Options {
                 unpack: true,
                 ..self
             }),
-            Flag::Unknown => Err(Usage::UnknownOption),
             Flag::Name if self.file.is_some() => Err(Usage::TwoFiles),
             Flag::Name => Ok(Options {
                 file: Some(word),

@@ -1,3 +1,2 @@
 mod Fits
-mod Outcomes
 mod RoundTrip

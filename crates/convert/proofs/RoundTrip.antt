@@ -1,6 +1,5 @@
 -- What is packed and unpacked again is the same day.
-use Rattle.std.proofs.Common.{◌≡◌, ℕ, List, Some, Ok, Err, Option, sym, refl, ap, ◌∙◌, arith}
-use Rattle.std.specs.Option.{option_map}
+use Rattle.std.proofs.Common.{◌≡◌, ℕ, List, Some, Ok, Err, sym, refl, ap, ◌∙◌}
 use Rattle.std.specs.List.{flat_map, AllByRecursion}
 use Rattle.visit.specs.declared.Terms.{Terms}
 use Rattle.command.specs.declared.Command.{Command}
@@ -29,9 +28,7 @@ day_kept t cs f g =
       terms = p;
       same_commands = q;
       all_read = r;
-      text = ap (λ (o : Option Terms). option_map (λ u. (day_text u (commands (body (file_of t cs))), unread (body (file_of t cs)))) o) p
-          ∙ ap (λ (ds : List Command). Some (day_text t ds, unread (body (file_of t cs)))) q
-          ∙ ap (λ (n : ℕ). Some (day_text t cs, n)) r;
+      text = cc (p, q, r);
       read_again = parses_back t cs f g;
     }
 
@@ -44,7 +41,7 @@ text_kept text file e =
           let k = day_kept d.0 d.1 fit.0 fit.1 in
           let same : file_of d.0 d.1 ≡ file = cc packs in
           (day_text d.0 d.1, ap unpacked (sym same) ∙ k.text, k.read_again ∙ sym says)
-      | Err b ↦ λ says packs. let z : ◌≡◌ {A = ℕ} 0 1 = cc packs in absurd (omega arith)
+      | Err b ↦ λ says packs. cc
     ] refl e
 
 pub kept_whole : RoundTrip

@@ -5,12 +5,6 @@ mod packing;
 mod unpacking;
 
 pub use days::{BadLine, ParseError};
+pub use feed::whole::{FileError, FileText};
 pub use packing::pack;
 pub use unpacking::unpack;
-
-// The text of a file, and how many bytes at the file's end could not be read as commands.
-#[derive(Drop)]
-pub struct Unpacked {
-    pub text: String,
-    pub unread: usize,
-}

@@ -10,6 +10,7 @@ use days::{ParseError, parse};
 use feed::files::{EncodeError, put_command, put_terms};
 use std::alloc::{AllocError, Global};
 
+// Every command of a day that was read fits its bytes, so that only memory may want.
 fn put_commands(file: &mut Vec<u8>, commands: &[Command]) -> Result<(), AllocError>
     requires { AllByRecursion (λ c. storable c ≡ true) commands.now }
     ensures { OnOk result (file.new.items ≡ file.old.items ++ flat_map command_bytes commands.now) }

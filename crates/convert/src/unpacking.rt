@@ -2,37 +2,36 @@
 ghost use Rattle.convert.specs.Unpacking.{contents, unpacked};
 ghost use Rattle.days.specs.Writing.{command_text};
 ghost use Rattle.feed.specs.Files.{commands, unread as Unread};
-ghost use Rattle.std.specs.Prelude.{◌≡◌, ◌++◌, IfOk, string_bytes, OnOk};
-ghost use Rattle.std.specs.Option.{option_map};
+ghost use Rattle.std.specs.Prelude.{◌≡◌, IfOk, Some};
+ghost use Rattle.feed.specs.Whole.{OfFile};
 ghost use Rattle.std.specs.List.{flat_map};
+ghost use Rattle.visit.specs.Text.{Puts};
 
-use super::Unpacked;
 use days::{put_command, put_terms};
-use feed::files::{Commands, TERMS_SIZE, read_terms};
+use feed::files::{Commands, read_terms};
+use feed::whole::{FileError, FileText};
 use std::alloc::{AllocError, Global};
 
 // Puts commands behind the text up to where decoding stops, and gives how many bytes are left there.
 fn put_commands(text: &mut String, bytes: &[u8]) -> Result<usize, AllocError>
-    ensures lines { OnOk result (string_bytes text.new ≡ string_bytes text.old ++ flat_map command_text (commands bytes.now)) }
+    ensures lines { Puts result text.old (flat_map command_text (commands bytes.now)) text.new }
     ensures rest { IfOk result (λ n. n ≡ Unread bytes.now) }
 {
     let mut found = Commands::new(bytes);
-    // Nothing is known of an iterator that a `for` has borrowed, and what is left is asked for.
+    // The walk of `report::run`, with another text for each command. Nothing is known of an iterator that a `for` has borrowed, and what is left is asked for.
     while let Some(command) = found.next() {
         put_command(text, command)?;
     }
     Ok(found.unread())
 }
 
-// None if the file is shorter than its terms.
-pub fn unpack(heap: Global, file: &[u8]) -> Result<Option<Unpacked>, AllocError>
-    ensures { IfOk result (λ o. option_map contents o ≡ unpacked file.now) }
+// The text of a whole file.
+pub fn unpack(heap: Global, file: &[u8]) -> Result<FileText, FileError>
+    ensures { OfFile (λ u. Some (contents u) ≡ unpacked file.now) file.now result }
 {
-    let Some(terms) = read_terms(file) else {
-        return Ok(None);
-    };
+    let (terms, rest) = read_terms(file).ok_or(FileError::TooShort)?;
     let mut text = String::new(heap);
     put_terms(&mut text, terms)?;
-    let unread = put_commands(&mut text, &file[TERMS_SIZE..])?;
-    Ok(Some(Unpacked { text, unread }))
+    let unread = put_commands(&mut text, rest)?;
+    Ok(FileText { text, unread })
 }

@@ -112,11 +112,12 @@ commands_back n [] a = commands_none n
 commands_back n (c ∷ cs) a =
     let ws = command_words c in
     let clean = command_clean c a.0 in
-    let left = commands_from (n + 1) (lines (flat_map command_text cs)) in
-    ap (commands_from n) (lines_back ws (flat_map command_text cs) clean)
-    ∙ commands_line n (spaced ws) (lines (flat_map command_text cs)) (ap (λ (v : List (List ℕ)). eqb (length v) 0) (words_back ws clean) ∙ command_some c)
-    ∙ ap (λ (r : Result Command Reason). then (at_line n r) (λ c. then left (λ cs. Ok (c ∷ cs)))) (ap parsed_command (words_back ws clean) ∙ command_back c a.0)
-    ∙ ap (λ (r : Result (List Command) BadLine). then r (λ cs. Ok (c ∷ cs))) (commands_back (n + 1) cs a.1)
+    let cut = lines_back ws (flat_map command_text cs) clean in
+    let said = words_back ws clean in
+    let first = commands_line n (spaced ws) (lines (flat_map command_text cs)) (ap (λ (v : List (List ℕ)). eqb (length v) 0) said ∙ command_some c) in
+    let one = command_back c a.0 in
+    let rest = commands_back (n + 1) cs a.1 in
+    cc (cut, first, said, one, rest)
 
 pub parses_back : ParsesBack
 parses_back t cs f a =

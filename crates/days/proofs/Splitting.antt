@@ -32,13 +32,11 @@ before_on p b bs o = take_while-cons (λ c. not (p c)) b bs ∙ simp o
 pub code_cut : (xs : List ℕ) → before_first (λ b. hash b || newline b) xs ≡ before_first hash (before_first newline xs)
 code_cut [] = refl
 code_cut (b ∷ bs) =
-    split (newline b)
-    (λ n. before_stop (λ c. hash c || newline c) b bs (grind (arith, nat_tests)) ∙ sym (ap (before_first hash) (before_stop newline b bs n)))
-    (λ n. split (hash b)
-    (λ h. before_stop (λ c. hash c || newline c) b bs (grind (arith, nat_tests)) ∙ sym (ap (before_first hash) (before_on newline b bs n) ∙ before_stop hash b (before_first newline bs) h))
-    (λ h. before_on (λ c. hash c || newline c) b bs (grind (arith, nat_tests))
-    ∙ ap (λ (l : List ℕ). b ∷ l) (code_cut bs)
-    ∙ sym (ap (before_first hash) (before_on newline b bs n) ∙ before_on hash b (before_first newline bs) h)))
+    let either = take_while-cons (λ c. not (hash c || newline c)) b bs in
+    let inner = take_while-cons (λ c. not (newline c)) b bs in
+    let outer = take_while-cons (λ c. not (hash c)) b (before_first newline bs) in
+    let rest = code_cut bs in
+    grind (arith, nat_tests)
 
 pub words_nil : words [] ≡ []
 unfolding words

@@ -76,42 +76,24 @@ module _ {xs content next : List ℕ} {found : List (List ℕ)} (done : List Com
   bare_line b e = ap (λ (ws : List (List ℕ)). eqb (length ws) 0) (sym h.words) ∙ e
 
   pub turn_blank : (all : List Command) (p : Option Terms) → eqb (length found) 0 ≡ true → all ≡ done → p ≡ o → behind all (left p (n + 1) (lines next)) ≡ behind done (left o n (lines xs))
-  turn_blank all p e same kept =
-      ap (λ (cs : List Command). behind cs (left p (n + 1) (lines next))) same
-      ∙ ap (λ (q : Option Terms). behind done (left q (n + 1) (lines next))) kept
-      ∙ sym (ap (λ (ls : List (List ℕ)). behind done (left o n ls)) h.line ∙ ap (behind done) (left_blank o n _ _ (bare_line true e)))
+  turn_blank all p e same kept = let l = h.line in let passed = left_blank o n (before_first newline content) (lines next) (bare_line true e) in cc (same, kept, l, passed)
 
   module _ (r : Result Terms Reason) (none : o ≡ None) (e : eqb (length found) 0 ≡ false) (read : r ≡ parsed_terms found) where
     at_terms : behind done (left o n (lines xs)) ≡ behind done (then (at_line n r) (λ t. left (Some t) (n + 1) (lines next)))
-    at_terms =
-        ap (λ (q : Option Terms). behind done (left q n (lines xs))) none
-        ∙ ap (λ (ls : List (List ℕ)). behind done (left None n ls)) h.line
-        ∙ ap (behind done)
-        (left_terms n _ _ (bare_line false e)
-        ∙ ap (λ (s : Result Terms Reason). then (at_line n s) (λ t. left (Some t) (n + 1) (lines next))) (ap parsed_terms (sym h.words) ∙ sym read))
+    at_terms = let l = h.line in let ws = h.words in let taken = left_terms n (before_first newline content) (lines next) (bare_line false e) in cc (none, l, ws, read, taken)
 
     pub bad_terms : (b : BadLine) → at_line n r ≡ Err b → behind done (left o n (lines xs)) ≡ Err b
-    bad_terms b got = at_terms ∙ ap (λ (s : Result Terms BadLine). behind done (then s (λ t. left (Some t) (n + 1) (lines next)))) got
+    bad_terms b got = at_terms ∙ cc got
 
     pub good_terms : (t : Terms) (all : List Command) (p : Option Terms) → at_line n r ≡ Ok t → all ≡ done → p ≡ Some t → behind all (left p (n + 1) (lines next)) ≡ behind done (left o n (lines xs))
-    good_terms t all p got same now =
-        ap (λ (cs : List Command). behind cs (left p (n + 1) (lines next))) same
-        ∙ ap (λ (q : Option Terms). behind done (left q (n + 1) (lines next))) now
-        ∙ sym (at_terms ∙ ap (λ (s : Result Terms BadLine). behind done (then s (λ t. left (Some t) (n + 1) (lines next)))) got)
+    good_terms t all p got same now = cc (got, same, now) ∙ sym at_terms
 
   module _ (r : Result Command Reason) (t : Terms) (some : o ≡ Some t) (e : eqb (length found) 0 ≡ false) (read : r ≡ parsed_command found) where
     at_command : behind done (left o n (lines xs)) ≡ then (at_line n r) (λ c. behind (done ++ c ∷ []) (left (Some t) (n + 1) (lines next)))
-    at_command =
-        ap (λ (q : Option Terms). behind done (left q n (lines xs))) some
-        ∙ ap (λ (ls : List (List ℕ)). behind done (left (Some t) n ls)) h.line
-        ∙ left_command done t n _ _ (bare_line false e)
-        ∙ ap (λ (s : Result Command Reason). then (at_line n s) (λ c. behind (done ++ c ∷ []) (left (Some t) (n + 1) (lines next)))) (ap parsed_command (sym h.words) ∙ sym read)
+    at_command = let l = h.line in let ws = h.words in let taken = left_command done t n (before_first newline content) (lines next) (bare_line false e) in cc (some, l, ws, read, taken)
 
     pub bad_command : (b : BadLine) → at_line n r ≡ Err b → behind done (left o n (lines xs)) ≡ Err b
-    bad_command b got = at_command ∙ ap (λ (s : Result Command BadLine). then s (λ c. behind (done ++ c ∷ []) (left (Some t) (n + 1) (lines next)))) got
+    bad_command b got = at_command ∙ cc got
 
     pub good_command : (c : Command) (all : List Command) (p : Option Terms) → at_line n r ≡ Ok c → all ≡ done ++ c ∷ [] → p ≡ o → behind all (left p (n + 1) (lines next)) ≡ behind done (left o n (lines xs))
-    good_command c all p got put kept =
-        ap (λ (cs : List Command). behind cs (left p (n + 1) (lines next))) put
-        ∙ ap (λ (q : Option Terms). behind (done ++ c ∷ []) (left q (n + 1) (lines next))) (kept ∙ some)
-        ∙ sym (at_command ∙ ap (λ (s : Result Command BadLine). then s (λ c. behind (done ++ c ∷ []) (left (Some t) (n + 1) (lines next)))) got)
+    good_command c all p got put kept = cc (got, put, kept, some) ∙ sym at_command

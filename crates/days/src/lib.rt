@@ -85,6 +85,7 @@ impl fmt::Display for ParseError {
 
 impl Error for ParseError {}
 
+// `From` by hand, here and below: contracts name the variant, and a derived `From` says nothing of it.
 impl From<BadLine> for ParseError {
     ghost from_gives = { λ e r. r ≡ Bad e };
 

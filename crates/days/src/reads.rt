@@ -55,6 +55,7 @@ pub fn parse(heap: Global, text: &[u8]) -> Result<Day, ParseError>
 {
     let mut terms = None;
     let mut commands = Vec::new(heap);
+    // Counted by hand: the number goes into the error, also behind the last line.
     let mut line = 1;
     for content in text.split_inclusive(|byte| *byte == b'\n') {
         let words = words(heap, content)?;

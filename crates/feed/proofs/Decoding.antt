@@ -2,15 +2,12 @@
 use Rattle.std.proofs.Common.{◌≡◌, ℕ, zero, suc, ◌<◌, ◌≤◌, List, [], ◌∷◌, length, drop, IfSome, Some, None, Option, sym, refl, ap, ◌∙◌, subst, arith, length-drop}
 use Rattle.std.proofs.lemmas.Bool.Decides.{nat_tests}
 use Rattle.command.specs.declared.Command.{Command}
-use Rattle.feed.specs.Files.{commands, decoded, followed, parsed, reading_in, unread, watermark_in, whole}
+use Rattle.feed.specs.Files.{commands, decoded, followed, parsed, unread}
 
--- A command that is whole takes some bytes, and no more than there are.
-whole_size : (n : ℕ) (c : Command) (bs : List ℕ) → 0 < n → IfSome (whole n c bs) (λ d. (0 < d.1) × (d.1 ≤ length bs))
-whole_size n c bs h = grind (arith, nat_tests)
-
+-- A command takes some bytes, and no more than there are.
 decoded_size : (bs : List ℕ) → IfSome (decoded bs) (λ d. (0 < d.1) × (d.1 ≤ length bs))
 unfolding decoded
-decoded_size bs = grind (arith, nat_tests, whole_size 21 (reading_in bs) bs (omega arith), whole_size 9 (watermark_in bs) bs (omega arith))
+decoded_size bs = grind (arith, nat_tests)
 
 pub size_bound : (bs : List ℕ) (c : Command) (k : ℕ) → decoded bs ≡ Some (c, k) → (0 < k) × (k ≤ length bs)
 size_bound bs c k e = subst (λ (o : Option (Command × ℕ)). IfSome o (λ d. (0 < d.1) × (d.1 ≤ length bs))) e (decoded_size bs)
@@ -37,14 +34,17 @@ parsed_enough (suc m) (suc n) bs h g =
       | Some d ↦ λ e.
           let b = size_bound bs d.0 d.1 e in
           let ih = parsed_enough m n (drop d.1 bs) (simp length-drop (omega arith)) (simp length-drop (omega arith)) in
-          parsed_some m bs d e ∙ (ap (λ (p : List Command × ℕ). (d.0 ∷ p.0, p.1)) ih ∙ sym (parsed_some n bs d e))
+          let one = parsed_some m bs d e in
+          let other = parsed_some n bs d e in
+          cc (one, other, ih)
     ] refl
 
 parsed_next : (bs : List ℕ) (c : Command) (k : ℕ) → decoded bs ≡ Some (c, k) → parsed (length bs) bs ≡ (c ∷ (parsed (length (drop k bs)) (drop k bs)).0, (parsed (length (drop k bs)) (drop k bs)).1)
 parsed_next bs c k e =
-    parsed_enough (length bs) (suc (length bs)) bs (omega arith) (omega arith)
-    ∙ (parsed_some (length bs) bs (c, k) e
-    ∙ ap (λ (p : List Command × ℕ). (c ∷ p.0, p.1)) (parsed_enough (length bs) (length (drop k bs)) (drop k bs) (simp length-drop (omega arith)) (omega arith)))
+    let enough = parsed_enough (length bs) (suc (length bs)) bs (omega arith) (omega arith) in
+    let first = parsed_some (length bs) bs (c, k) e in
+    let rest = parsed_enough (length bs) (length (drop k bs)) (drop k bs) (simp length-drop (omega arith)) (omega arith) in
+    cc (enough, first, rest)
 
 -- Where a command is decoded, it is the first, and the others are those of the bytes behind it.
 pub commands_next : (bs : List ℕ) (c : Command) (k : ℕ) → decoded bs ≡ Some (c, k) → commands bs ≡ c ∷ commands (drop k bs)

@@ -1,14 +1,13 @@
 -- What is read, written again, is the bytes that were read.
-use Rattle.std.proofs.Common.{◌≡◌, ℕ, zero, suc, ◌+◌, ◌-◌, ◌*◌, ◌/◌, ◌%◌, ◌^◌, ◌<◌, ◌≤◌, true, eqb, ltb, List, [], ◌∷◌, ◌++◌, length, get_or, take, drop, IfSome, Some, None, Option, sym, refl, ap, ◌∙◌, subst, arith, length-drop, take-add}
+use Rattle.std.proofs.Common.{◌≡◌, ℕ, zero, suc, ◌+◌, ◌-◌, ◌*◌, ◌/◌, ◌%◌, ◌^◌, ◌<◌, ◌≤◌, true, List, [], ◌∷◌, ◌++◌, length, get_or, take, drop, IfSome, Some, None, Option, sym, refl, ap, ◌∙◌, subst, arith, length-drop, take-add}
 use Rattle.std.proofs.lemmas.Nat.{pow-add}
 use Rattle.std.proofs.ByRecursion.{All-drop, All-take}
 use Rattle.std.proofs.lemmas.List.{drop-drop, length-take-le, take-append-drop}
-use Rattle.std.proofs.lemmas.Bool.{cond_both, eqb-true, ltb-false}
 use Rattle.std.proofs.lemmas.Bool.Decides.{nat_tests}
 use Rattle.std.specs.List.{flat_map, AllByRecursion}
 use Rattle.command.specs.declared.Command.{Command}
 use Rattle.feed.specs.Bytes.{bytes_of, low_first, number_at}
-use Rattle.feed.specs.Files.{Lossless, command_bytes, commands, decoded, reading_in, storable, unread, watermark_in, whole}
+use Rattle.feed.specs.Files.{Lossless, command_bytes, commands, decoded, reading_in, storable, unread, watermark_in}
 use Rattle.feed.proofs.Decoding.{commands_end, commands_next, decoded_empty, size_bound, unread_bound, unread_end, unread_next}
 
 abbrev Bytes : List ℕ → Type 0
@@ -77,18 +76,9 @@ watermark_exact bs h l e =
     let p = part_lt 8 1 bs h (omega arith) in
     (kind_then 1 8 bs _ (omega arith) e (part_back 8 1 bs h (omega arith)), grind (arith, nat_tests))
 
-whole_exact : (n : ℕ) (c : Command) (bs : List ℕ) → (n ≤ length bs → Exact bs (c, n)) → IfSome (whole n c bs) (Exact bs)
-whole_exact n c bs f =
-    cond_both (ltb (length bs) n) None (Some (c, n)) (λ o. IfSome o (Exact bs)) (λ _. tt) (λ e. f (ltb-false (length bs) n e))
-
 decoded_exact : (bs : List ℕ) → Bytes bs → IfSome (decoded bs) (Exact bs)
 unfolding decoded
-decoded_exact bs h =
-    cond_both (eqb (get_or bs 0 0) 0) _ _ (λ o. IfSome o (Exact bs))
-    (λ e. whole_exact 21 (reading_in bs) bs (λ l. reading_exact bs h l (eqb-true (get_or bs 0 0) 0 e)))
-    (λ _. cond_both (eqb (get_or bs 0 0) 1) _ _ (λ o. IfSome o (Exact bs))
-    (λ e. whole_exact 9 (watermark_in bs) bs (λ l. watermark_exact bs h l (eqb-true (get_or bs 0 0) 1 e)))
-    (λ _. tt))
+decoded_exact bs h = grind (arith, nat_tests, reading_exact bs h, watermark_exact bs h)
 
 pub command_exact : (bs : List ℕ) (c : Command) (k : ℕ) → Bytes bs → decoded bs ≡ Some (c, k) → Exact bs (c, k)
 command_exact bs c k h e = subst (λ (o : Option (Command × ℕ)). IfSome o (Exact bs)) e (decoded_exact bs h)
@@ -111,10 +101,10 @@ file_exact (suc n) bs l h =
           let u = unread_bound rest in
           let ih = file_exact n rest (omega arith) (All-drop (λ b. b < 256) d.1 bs h) in
           let q : d.1 + (length rest - unread rest) ≡ length bs - unread bs = omega (arith, unread_next bs d.0 d.1 e) in
-          ap (flat_map command_bytes) (commands_next bs d.0 d.1 e)
-          ∙ (ap (λ (l : List ℕ). l ++ flat_map command_bytes (commands rest)) (command_exact bs d.0 d.1 h e).0
-          ∙ (ap (λ (l : List ℕ). take d.1 bs ++ l) ih
-          ∙ (sym (take-add d.1 (length rest - unread rest) bs) ∙ ap (λ (m : ℕ). take m bs) q)))
+          let all = commands_next bs d.0 d.1 e in
+          let first = (command_exact bs d.0 d.1 h e).0 in
+          let more = take-add d.1 (length rest - unread rest) bs in
+          cc (all, first, ih, more, q)
     ] refl
 
 pub lossless : Lossless

@@ -2,3 +2,4 @@ pub mod Bytes
 pub mod Commands
 pub mod Files
 pub mod Text
+pub mod Whole

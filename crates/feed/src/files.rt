@@ -1,10 +1,11 @@
 // Command files: gap, lateness and day length, then the commands. All numbers stand low byte first.
-ghost use Rattle.std.specs.Prelude.{Some, ◌≡◌, ◌+◌, ◌<◌, ◌≤◌, true, ◌++◌, length, drop, IfSome, is_ok, if◌then◌else◌, MatchOption, MatchResult, OnSome};
+ghost use Rattle.std.specs.Prelude.{Some, ◌≡◌, ◌+◌, ◌<◌, ◌≤◌, true, length, drop, IfSome, if◌then◌else◌, MatchOption, MatchResult, OnSome};
 ghost use Rattle.std.specs.Iterator.{item_count};
 ghost use Rattle.std.specs.List.{flat_map};
-ghost use Rattle.feed.specs.Bytes.{TakesFirst, number_at};
+ghost use Rattle.std.specs.Option.{option_map};
+ghost use Rattle.feed.specs.Bytes.{PutsWhole, TakesFirst, number_at};
 ghost use Rattle.feed.specs.Commands.{IsFront, StepsOn, bytes_left, commands_left};
-ghost use Rattle.feed.specs.Files.{Lossless, RoundTrip, command_bytes, decoded, decoded_at, storable, terms_bytes, terms_in, terms_size};
+ghost use Rattle.feed.specs.Files.{Lossless, RoundTrip, body, command_bytes, decoded, decoded_at, storable, terms_bytes, terms_in, terms_size};
 ghost use Rattle.feed.specs.Text.{encode_error_text};
 ghost use Rattle.feed.specs.declared.files.EncodeError.TheVariants.{OutOfMemory, TooLarge};
 
@@ -15,14 +16,12 @@ use std::fmt;
 use std::num::TryFromIntError;
 use visit::{Reading, Terms};
 
-// How many bytes the terms take.
-pub const TERMS_SIZE: usize = 24;
-
-// The first byte of a command says its kind.
+// The first byte of a command says its kind, as the format has it.
 const READING: u8 = 0;
 
 const WATERMARK: u8 = 1;
 
+// Two functions: one over the width would copy into eight bytes, and ask that the width is at most that.
 // The number in the first four bytes, and the bytes behind them.
 fn word(bytes: &[u8]) -> Option<(u64, &[u8])>
     ensures { TakesFirst 4 (number_at 4 0 bytes.now) bytes.now result }
@@ -39,16 +38,18 @@ fn long(bytes: &[u8]) -> Option<(u64, &[u8])>
     Some((u64::from_le_bytes(*number), rest))
 }
 
-// The terms at the front of a file, unless it is too short for them.
+// The terms at the front of a file and the bytes behind them, unless it is too short for them.
 #[tactic(auto, unfolding(crate::specs::Files::terms_in))]
-pub fn read_terms(bytes: &[u8]) -> Option<Terms>
-    ensures value { result ≡ terms_in bytes.now }
+pub fn read_terms(bytes: &[u8]) -> Option<(Terms, &[u8])>
+    ensures value { option_map (λ p. p.0) result ≡ terms_in bytes.now }
+    ensures rest { IfSome result (λ p. p.1.now ≡ body bytes.now) }
     ensures bound { OnSome result (terms_size ≤ length bytes.now) }
 {
     let (gap, bytes) = long(bytes)?;
     let (lateness, bytes) = long(bytes)?;
-    let (day, _) = long(bytes)?;
-    Some(Terms { gap, lateness, day })
+    let (day, rest) = long(bytes)?;
+    let terms = Terms { gap, lateness, day };
+    Some((terms, rest))
 }
 
 // A reading behind its kind, and the bytes behind it.
@@ -161,6 +162,7 @@ impl fmt::Display for EncodeError {
 
 impl Error for EncodeError {}
 
+// `From` by hand, here and below: contracts name the variant, and a derived `From` says nothing of it.
 impl From<TryFromIntError> for EncodeError {
     ghost from_gives = { λ _ e. e ≡ TooLarge };
 
@@ -179,10 +181,11 @@ impl From<AllocError> for EncodeError {
 
 // All of the parts or, where memory runs out, none of them.
 fn append(out: &mut Vec<u8>, parts: &[&[u8]]) -> Result<(), AllocError>
-    ensures { out.new.items ≡ (if is_ok result then out.old.items ++ flat_map (λ p. p.now) parts.now else out.old.items) }
+    ensures { PutsWhole result out.old (flat_map (λ p. p.now) parts.now) out.new }
 {
     let start = out.len();
     for part in parts {
+        // Not `?`: what was written is taken back first.
         if let Err(error) = out.extend_from_slice(part) {
             out.truncate(start);
             return Err(error);
@@ -194,7 +197,7 @@ fn append(out: &mut Vec<u8>, parts: &[&[u8]]) -> Result<(), AllocError>
 // An error leaves `out` as it was.
 #[tactic(auto, using(crate::proofs::Rows::long_bytes))]
 pub fn put_terms(out: &mut Vec<u8>, terms: Terms) -> Result<(), AllocError>
-    ensures { out.new.items ≡ (if is_ok result then out.old.items ++ terms_bytes terms else out.old.items) }
+    ensures { PutsWhole result out.old (terms_bytes terms) out.new }
 {
     append(
         out,
@@ -208,7 +211,7 @@ pub fn put_terms(out: &mut Vec<u8>, terms: Terms) -> Result<(), AllocError>
 
 #[tactic(auto, using(crate::proofs::Rows::word_bytes, crate::proofs::Rows::long_bytes), unfolding(crate::specs::Files::storable))]
 fn put_reading(out: &mut Vec<u8>, reading: Reading) -> Result<(), EncodeError>
-    ensures items { out.new.items ≡ (if is_ok result then out.old.items ++ command_bytes (Command.Reading reading) else out.old.items) }
+    ensures items { PutsWhole result out.old (command_bytes (Command.Reading reading)) out.new }
     ensures cases { MatchResult result (λ _. storable (Command.Reading reading) ≡ true) (λ e. e ≡ (if storable (Command.Reading reading) then EncodeError.OutOfMemory else EncodeError.TooLarge)) }
 {
     let card = u32::try_from(reading.card)?;
@@ -230,7 +233,7 @@ fn put_reading(out: &mut Vec<u8>, reading: Reading) -> Result<(), EncodeError>
 // An error leaves `out` as it was.
 #[tactic(auto, using(crate::proofs::Rows::long_bytes), unfolding(crate::specs::Files::storable))]
 pub fn put_command(out: &mut Vec<u8>, command: Command) -> Result<(), EncodeError>
-    ensures items { out.new.items ≡ (if is_ok result then out.old.items ++ command_bytes command else out.old.items) }
+    ensures items { PutsWhole result out.old (command_bytes command) out.new }
     ensures cases { MatchResult result (λ _. storable command ≡ true) (λ e. e ≡ (if storable command then EncodeError.OutOfMemory else EncodeError.TooLarge)) }
 {
     match command {

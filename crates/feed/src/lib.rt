@@ -5,3 +5,4 @@ pub mod files;
 #[cfg(test)]
 mod tests;
 pub mod text;
+pub mod whole;

@@ -15,6 +15,7 @@ const UNKNOWN: [u8; 21] = [2; 21];
 
 #[test]
 fn layout(rt: HostRuntime) -> Result<(), Fail> {
+    // Here and below the number is the datum: every length that is too short.
     for n in 0..21 {
         assert!(rt;
             command_at(&READING[0..n], 0).is_none(),

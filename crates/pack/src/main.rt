@@ -1,7 +1,6 @@
 // A day as text to a command file, and back.
 #![tactic(auto)]
 
-use anyhow::Context;
 use cli::Tool;
 use cli::options::Options;
 use std::process::ExitCode;
@@ -30,9 +29,7 @@ fn pack_text(rt: &HostRuntime, text: &[u8]) -> anyhow::Result<usize> {
 }
 
 fn unpack_file(rt: &HostRuntime, file: &[u8]) -> anyhow::Result<usize> {
-    let day = convert::unpack(rt.alloc(), file)?.context(
-        "the file is shorter than its terms (24 bytes)",
-    )?;
+    let day = convert::unpack(rt.alloc(), file)?;
     cli::output(rt, day.text.as_bytes())?;
     Ok(day.unread)
 }

@@ -1,5 +1,5 @@
 -- A line put to a ledger, as the code does it at the place that it found, and what the ledger then sums to.
-use Rattle.std.proofs.Common.{◌≡◌, ℕ, ◌+◌, ◌<◌, ◌≤◌, true, false, cond, List, [], ◌∷◌, length, get_or, set, sum_by, sym, refl, add-one, arith}
+use Rattle.std.proofs.Common.{◌≡◌, ℕ, ◌+◌, ◌<◌, ◌≤◌, true, false, List, [], ◌∷◌, length, get_or, set, sum_by, sym, refl, add-one, arith}
 use Rattle.std.specs.List.{insert, prefix_len}
 use Rattle.std.proofs.lemmas.List.{drop_all, drop_more, set_split}
 use Rattle.std.proofs.lemmas.List.Sums.{sum_by-cons}
@@ -30,10 +30,4 @@ pub add_shares : (f : Line → ℕ) → ((a b : Line) → f (line_plus a b) ≡ 
     → sum_by f (add_line t l xs) ≡ sum_by f xs + f l
 add_shares f plus t l [] = omega (arith, sum_by-cons f l [])
 add_shares f plus t l (x ∷ xs) =
-    elim (line_before t x l) as (λ b. sum_by f (cond b (x ∷ add_line t l xs) (add_here t l (x ∷ xs))) ≡ sum_by f (x ∷ xs) + f l) [
-      | true ↦ omega (arith, add_shares f plus t l xs, sum_by-cons f x xs, sum_by-cons f x (add_line t l xs))
-      | false ↦ elim (same_key t x l) as (λ b. sum_by f (cond b (line_plus x l ∷ xs) (l ∷ x ∷ xs)) ≡ sum_by f (x ∷ xs) + f l) [
-        | true ↦ omega (arith, plus x l, sum_by-cons f x xs, sum_by-cons f (line_plus x l) xs)
-        | false ↦ omega (arith, sum_by-cons f l (x ∷ xs))
-      ]
-    ]
+    grind (arith, add_shares f plus t l xs, plus x l, sum_by-cons f x xs, sum_by-cons f x (add_line t l xs), sum_by-cons f (line_plus x l) xs, sum_by-cons f l (x ∷ xs))

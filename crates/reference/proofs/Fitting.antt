@@ -1,11 +1,10 @@
 -- Sums over whole lists: what each visit has comes from its readings, so it fits where their sum does.
-use Rattle.std.proofs.Common.{◌≡◌, ℕ, ◌+◌, ◌≤◌, true, false, cond, List, [], ◌∷◌, ◌++◌, length, sum_by, refl, ap, ◌∙◌, arith}
+use Rattle.std.proofs.Common.{◌≡◌, ℕ, ◌+◌, ◌≤◌, List, [], ◌∷◌, ◌++◌, length, sum_by, refl, ap, ◌∙◌, arith}
 use Rattle.std.proofs.lemmas.List.Sums.{sum_by-append, sum_by-cons}
 use Rattle.visit.specs.declared.Reading.{Reading}
 use Rattle.visit.specs.declared.Terms.{Terms}
 use Rattle.visit.specs.declared.Visit.{Visit}
-use Rattle.visit.specs.Visits.{grown, joins, single}
-use Rattle.visit.specs.Readings.{reading_before}
+use Rattle.visit.specs.Visits.{grown, single}
 use Rattle.model.specs.Sessions.{insert_reading, prepend, visits}
 use Rattle.visit.specs.Sums.{amounts, counts, sums}
 
@@ -17,10 +16,7 @@ prepend_shares : (f : Visit → ℕ) (g : Reading → ℕ) → Shares f g → (t
     → sum_by f (prepend t e vs) ≡ g e + sum_by f vs
 prepend_shares f g s t e [] = rw (sum_by-cons f (single e) [], s.0 e) refl
 prepend_shares f g s t e (v ∷ vs) =
-    elim (joins t e v) as (λ b. sum_by f (cond b (grown e v ∷ vs) (single e ∷ v ∷ vs)) ≡ g e + sum_by f (v ∷ vs)) [
-      | true ↦ omega (arith, sum_by-cons f (grown e v) vs, sum_by-cons f v vs, s.1 e v)
-      | false ↦ omega (arith, sum_by-cons f (single e) (v ∷ vs), s.0 e)
-    ]
+    grind (arith, s.0 e, s.1 e v, sum_by-cons f v vs, sum_by-cons f (grown e v) vs, sum_by-cons f (single e) (v ∷ vs))
 
 pub visits_shares : (f : Visit → ℕ) (g : Reading → ℕ) → Shares f g → (t : Terms) (es : List Reading)
     → sum_by f (visits t es) ≡ sum_by g es
@@ -53,10 +49,7 @@ shares_behind g all rest done e h =
 pub insert_shares : (g : Reading → ℕ) (t : Terms) (e : Reading) (xs : List Reading) → sum_by g (insert_reading t e xs) ≡ sum_by g xs + g e
 insert_shares g t e [] = omega (arith, sum_by-cons g e [])
 insert_shares g t e (x ∷ xs) =
-    elim (reading_before t x e) as (λ b. sum_by g (cond b (x ∷ insert_reading t e xs) (e ∷ x ∷ xs)) ≡ sum_by g (x ∷ xs) + g e) [
-      | true ↦ omega (arith, insert_shares g t e xs, sum_by-cons g x xs, sum_by-cons g x (insert_reading t e xs))
-      | false ↦ omega (arith, sum_by-cons g e (x ∷ xs))
-    ]
+    grind (arith, insert_shares g t e xs, sum_by-cons g x xs, sum_by-cons g x (insert_reading t e xs), sum_by-cons g e (x ∷ xs))
 
 pub insert_length : (t : Terms) (e : Reading) (xs : List Reading) → length (insert_reading t e xs) ≡ length xs + 1
 insert_length t e xs = omega (arith, ones xs, ones (insert_reading t e xs), insert_shares (λ x. 1) t e xs)

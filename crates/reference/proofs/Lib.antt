@@ -2,3 +2,4 @@ pub mod Backwards
 pub mod Bounds
 pub mod Entries
 pub mod Fitting
+pub mod Listed

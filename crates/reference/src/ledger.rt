@@ -3,16 +3,16 @@ ghost use Rattle.std.specs.Prelude.{◌≡◌, ◌+◌, ◌^◌, ◌<◌, IfOk, 
 ghost use Rattle.model.specs.Ledger.{add_line, totals as Totals};
 ghost use Rattle.visit.specs.Sums.{line_sums, line_visits, sums};
 
-use crate::order::place;
 use std::alloc::{AllocError, Global};
-use visit::{Line, Terms, Visit};
+use visit::{Line, Terms, Visit, place};
 
+// A sorted list, as in the model: a map would be proved against it by the list of its entries, and be no plainer.
 pub fn add_to(lines: &mut Vec<Line>, line: Line, terms: Terms) -> Result<(), AllocError>
     requires visits { line_visits lines.old.items + line.visits < 2 ^ 64 }
     requires sum { line_sums lines.old.items + line.sum < 2 ^ 64 }
     ensures { OnOk result (lines.new.items ≡ add_line terms line lines.old.items) }
 {
-    let at = place(lines, line, terms);
+    let at = place(lines.iter().copied(), line, terms);
     match lines.get_mut(at) {
         Some(found) if found.same_key(line, terms) => *found = found.plus(line),
         _ => lines.insert(at, line)?,

@@ -2,17 +2,17 @@
 #![tactic(auto)]
 
 mod ledger;
-mod order;
 mod readings;
 mod visits;
 
 ghost use Rattle.command.specs.Outcomes.{outcome_of};
 ghost use Rattle.model.specs.Reference.{closed_of, empty, ledger_of, outcome_by, state_by};
+ghost use Rattle.model.specs.Sessions.{contains};
 ghost use Rattle.std.specs.Prelude.{◌≡◌, ◌*◌, ◌^◌, ◌<◌, ◌≤◌, ◌↔◌, IfOk, IsOk, IsTrue, Ok, vec_len, OnErr, OnOk, sum_by};
 ghost use Rattle.std.specs.Result.{result_and};
 
 use command::{Answer, Command, Refusal, check_terms};
-use readings::{contains, inserted};
+use readings::inserted;
 use std::alloc::{AllocError, Global};
 use visit::{Clock, Line, Reading, Terms, Visit};
 use visits::changes;
@@ -52,13 +52,14 @@ impl Reference {
         ensures same { OnErr result (model_of self.new ≡ model_of self.old) }
         ensures terms { terms_of self.new ≡ terms_of self.old }
     {
+        // Not `?`: a refusal is an answer, and only want of memory is an error (docs/DECISIONS.md).
         if let Err(refusal) = self.check(command) {
             return Ok(Err(refusal));
         }
         let next = self.next(heap, command)?;
         let before = self.closed(heap)?;
         let after = next.closed(heap)?;
-        let changes = changes(heap, self.clock.terms, &before, &after)?;
+        let changes = changes(heap, &before, &after)?;
         *self = next;
         Ok(Ok(changes))
     }
@@ -87,6 +88,15 @@ impl Reference {
         self.readings.len() < MOST_READINGS
     }
 
+    // Whether the reading was taken in before.
+    fn has(&self, reading: Reading) -> bool
+        ensures { result ≡ contains (terms_of self.now) reading (model_of self.now).readings }
+    {
+        self.readings
+            .iter()
+            .any(|other| reading.same(*other, self.clock.terms))
+    }
+
     // Whether the command may be done, or why not.
     fn check(&self, command: Command) -> Result<(), Refusal>
         ensures { result ≡ result_and (plan_of self.now command) (Ok tt) }
@@ -95,9 +105,7 @@ impl Reference {
         command.check()?;
         match command {
             Command::Reading(e) if e.too_late(self.clock) => Err(Refusal::TooLate(e.time)),
-            Command::Reading(e) if contains(&self.readings, e, self.clock.terms) => {
-                Err(Refusal::Duplicate(e.time))
-            }
+            Command::Reading(e) if self.has(e) => Err(Refusal::Duplicate(e.time)),
             Command::Watermark(m) if m < self.clock.watermark => Err(Refusal::Backwards(m)),
             _ => Ok(()),
         }

@@ -1,9 +1,9 @@
 // Visits of readings in order, and how two lists of visits differ.
 ghost use Rattle.std.specs.Prelude.{◌≡◌, ◌+◌, ◌^◌, ◌<◌, reverse, IfOk, OnOk};
 ghost use Rattle.command.specs.Outcomes.{outcome_of};
-ghost use Rattle.model.specs.Sessions.{changes as Changed, difference as Difference, prepend as Prepend, some, visits as Visits};
-ghost use Rattle.visit.specs.Sums.{amounts, counts, sums};
-ghost use Rattle.visit.specs.Visits.{same_visit};
+ghost use Rattle.model.specs.Sessions.{changes as Changed, difference as Difference, prepend as Prepend, visits as Visits};
+ghost use Rattle.visit.specs.Sums.{SumsFit, amounts};
+ghost use Rattle.visit.specs.declared.Terms.{Terms};
 
 use command::Changes;
 use std::alloc::{AllocError, Global};
@@ -11,8 +11,7 @@ use visit::{Reading, Terms, Visit};
 
 // The list is held backwards, its front visit last, so that a reading before all others costs no shift.
 pub fn prepend(backwards: &mut Vec<Visit>, reading: Reading, terms: Terms) -> Result<(), AllocError>
-    requires count { counts (reverse backwards.old.items) + 1 < 2 ^ 64 }
-    requires sum { sums (reverse backwards.old.items) + reading.amount < 2 ^ 64 }
+    requires { SumsFit (reverse backwards.old.items) 1 reading.amount }
     ensures { OnOk result (reverse backwards.new.items ≡ Prepend terms reading (reverse backwards.old.items)) }
 {
     match backwards.last_mut() {
@@ -35,36 +34,20 @@ pub fn visits(heap: Global, terms: Terms, readings: &[Reading]) -> Result<Vec<Vi
     Ok(backwards)
 }
 
-fn contains(visits: &[Visit], visit: Visit, terms: Terms) -> bool
-    ensures { result ≡ some (same_visit terms visit) visits.now }
-{
-    visits.iter().any(|other| visit.same(*other, terms))
-}
-
 // The visits that are not among others, in order.
-fn difference(
-    heap: Global,
-    terms: Terms,
-    visits: &[Visit],
-    from: &[Visit],
-) -> Result<Vec<Visit>, AllocError>
-    ensures { IfOk result (λ v. v.items ≡ Difference terms visits.now from.now) }
+fn difference(heap: Global, visits: &[Visit], from: &[Visit]) -> Result<Vec<Visit>, AllocError>
+    ensures { (t : Terms) → IfOk result (λ v. v.items ≡ Difference t visits.now from.now) }
 {
-    let is_missing = |visit: &Visit| !contains(from, *visit, terms);
+    let is_missing = |visit: &Visit| !from.contains(visit);
     visits.iter().copied().filter(is_missing).collect(heap)
 }
 
 // What was closed before and is not now, and the reverse.
-pub fn changes(
-    heap: Global,
-    terms: Terms,
-    before: &[Visit],
-    after: &[Visit],
-) -> Result<Changes, AllocError>
-    ensures { IfOk result (λ d. outcome_of (Ok d) ≡ Changed terms before.now after.now) }
+pub fn changes(heap: Global, before: &[Visit], after: &[Visit]) -> Result<Changes, AllocError>
+    ensures { (t : Terms) → IfOk result (λ d. outcome_of (Ok d) ≡ Changed t before.now after.now) }
 {
     Ok(Changes {
-        retracted: difference(heap, terms, before, after)?,
-        added: difference(heap, terms, after, before)?,
+        retracted: difference(heap, before, after)?,
+        added: difference(heap, after, before)?,
     })
 }

@@ -1,17 +1,17 @@
 -- A store in a row and the reference print the same of the commands that are not withheld.
-use Rattle.std.proofs.Common.{◌≡◌, ℕ, ◌≤◌, min, Bool, true, false, cond, List, [], ◌∷◌, ◌++◌, length, drop, replicate, Some, None, Option, sym, refl, ap, ◌∙◌, subst, arith}
+use Rattle.std.proofs.Common.{◌≡◌, ℕ, ◌≤◌, min, Bool, true, false, cond, List, [], ◌∷◌, ◌++◌, length, drop, replicate, Ok, Err, Result, sym, refl, ap, ◌∙◌, subst, arith}
 use Rattle.std.specs.List.{flat_map, AllByRecursion}
 use Rattle.std.proofs.lemmas.List.{append_assoc, length-replicate}
 use Rattle.std.proofs.lemmas.Bool.{le-ltb}
 use Rattle.visit.specs.declared.Terms.{Terms}
 use Rattle.command.specs.declared.Command.{Command}
 use Rattle.command.specs.declared.Command.TheVariants.{Reading as A-reading, Watermark}
-use Rattle.command.specs.Outcomes.{Outcome, changed, refused, reply_of}
+use Rattle.command.specs.Outcomes.{Outcome, reply_of}
 use Rattle.model.specs.Reference.{Reference, bounded_plan, empty, outcome_by, state_by}
 use Rattle.model.specs.Store.{Store}
 use Rattle.model.proofs.Common.{split}
 use Rattle.model.proofs.Mirror.{image}
-use Rattle.changes.specs.Out.{change_row, outcome_row, overlay}
+use Rattle.changes.specs.Out.{outcome_row, overlay}
 use Rattle.changes.specs.Room.{out_width}
 use Rattle.rows.specs.Lines.{lines_in}
 use Rattle.store.specs.declared.capacity.Capacity.{Capacity}
@@ -28,13 +28,14 @@ use Rattle.guarantees.proofs.Clean.{clean_length, clean_store, empty_clean}
 use Rattle.guarantees.proofs.Runs.{planned_bounded}
 use Rattle.guarantees.proofs.Standing.{Standing, empty_standing}
 use Rattle.owned.specs.Rows.{lines_shown, outcome_to, row_then}
-use Rattle.owned.proofs.Told.{done_outcome, refused_outcome}
+use Rattle.owned.proofs.Replies.{means}
 use Rattle.feed.specs.Files.{body, commands}
 use Rattle.feed.specs.Text.{ledger_text, outcome_text}
 use Rattle.report.specs.SameText.{Begins, SameBeginning, SameText, SameTextHeard, first_heard, store_heard, store_outcomes, store_prints_heard, withheld_outcome}
 use Rattle.report.specs.Texts.{reference_prints, settle_text, store_prints}
 use Rattle.report.specs.Whole.{AsRecomputed, Reported}
-use Rattle.report.specs.declared.whole.Report.{Report}
+use Rattle.feed.specs.declared.whole.FileError.{FileError}
+use Rattle.feed.specs.declared.whole.FileText.{FileText}
 use Rattle.report.proofs.Printing.{prints_more}
 
 -- The lines shown of a row that holds a store and nothing else are its ledger.
@@ -61,17 +62,15 @@ store_begins cap n xs [] = begins_none (store_prints cap n xs [])
 store_begins cap n xs (c ∷ cs) =
     let o : Outcome = outcome_to cap xs n c in
     let ys : List ℕ = row_then cap xs n c in
-    let lines : Bool → List ℕ = λ b. flat_map outcome_text (cond b [] (o ∷ first_heard (store_outcomes cap n ys cs))) in
     split (withheld_outcome o)
-    (λ h. subst (λ (b : Bool). Begins (lines b) (store_prints cap n xs (c ∷ cs))) (sym h) (begins_none (store_prints cap n xs (c ∷ cs))))
-    (λ h. subst (λ (b : Bool). Begins (lines b) (store_prints cap n xs (c ∷ cs))) (sym h) (begins_more (lines_before cap n ys cs) (store_prints cap n ys cs) (outcome_text o) (store_begins cap n ys cs)))
+    (λ h. (store_prints cap n xs (c ∷ cs), cc h))
+    (λ h. let more = begins_more (lines_before cap n ys cs) (store_prints cap n ys cs) (outcome_text o) (store_begins cap n ys cs) in let same = more.1 in (more.0, cc (h, same)))
 
 -- Reply and row of changes leave one outcome.
 same_outcome : (o p : Outcome) (out : List ℕ) → reply_of o ≡ reply_of p → overlay (outcome_row o) out ≡ overlay (outcome_row p) out → o ≡ p
-same_outcome (refused r) p out e q = refused_outcome p r e
-same_outcome (changed gone new) p out e q =
-    let row : List ℕ = overlay (change_row gone new) out in
-    sym (done_outcome (changed gone new) _ out row refl refl).outcome ∙ (done_outcome p _ out row e q).outcome
+same_outcome o p out e q =
+    let row : List ℕ = overlay (outcome_row o) out in
+    sym (means o (reply_of o) out row refl refl).outcome ∙ (means p (reply_of o) out row e q).outcome
 
 -- A command's row is read as the command.
 read_again : (c : Command) → command_in (command_cells c) ≡ c
@@ -194,15 +193,12 @@ all_shown : (cap : Capacity) (n : ℕ) (xs : List ℕ) (cs : List Command) → A
     → store_prints_heard cap n xs cs ≡ store_prints cap n xs cs
 all_shown cap n xs [] a = refl
 all_shown cap n xs (c ∷ cs) a =
-    let o : Outcome = outcome_to cap xs n c in
-    let ys : List ℕ = row_then cap xs n c in
-    ap (λ (b : Bool). cond b [] (outcome_text o) ++ store_prints_heard cap n ys cs) a.0 ∙ ap (λ (bs : List ℕ). outcome_text o ++ bs) (all_shown cap n ys cs a.1)
+    let none = a.0 in let ih = all_shown cap n (row_then cap xs n c) cs a.1 in cc (none, ih)
 
 all_heard : (cap : Capacity) (n : ℕ) (xs : List ℕ) (cs : List Command) → AllByRecursion (λ o. withheld_outcome o ≡ false) (store_outcomes cap n xs cs) → store_heard cap n xs cs ≡ cs
 all_heard cap n xs [] a = refl
 all_heard cap n xs (c ∷ cs) a =
-    let hs : List Command = store_heard cap n (row_then cap xs n c) cs in
-    ap (λ (b : Bool). cond b hs (c ∷ hs)) a.0 ∙ ap (λ (l : List Command). c ∷ l) (all_heard cap n (row_then cap xs n c) cs a.1)
+    let none = a.0 in let ih = all_heard cap n (row_then cap xs n c) cs a.1 in cc (none, ih)
 
 same_from_empty : (cap : Capacity) (n : ℕ) → out_width ≤ n → (t : Terms) (xs : List ℕ) (cs : List Command)
     → AllByRecursion (λ o. withheld_outcome o ≡ false) (store_outcomes cap n (empty_row t xs) cs) → store_prints cap n (empty_row t xs) cs ≡ reference_prints t empty cs
@@ -221,8 +217,8 @@ same_beginning cap t cs =
     (store_begins cap out_width xs cs, begins_from_empty cap out_width (omega arith) t (replicate store_size 0) cs)
 
 -- So a report with the store's text is one as recomputed.
-pub as_recomputed : (cap : Capacity) (file : List ℕ) (o : Option Report) → Reported (settle_text cap) file o → AsRecomputed cap file o
-as_recomputed cap file None h = tt
-as_recomputed cap file (Some r) h = λ t is none.
+pub as_recomputed : (cap : Capacity) (file : List ℕ) (o : Result FileText FileError) → Reported (settle_text cap) file o → AsRecomputed cap file o
+as_recomputed cap file (Err e) h = tt
+as_recomputed cap file (Ok r) h = λ t is none.
     let same : h.0 ≡ t = cc (h.1, is) in
     h.2 ∙ ap (λ (u : Terms). settle_text cap u (commands (body file))) same ∙ same_text cap t (commands (body file)) none

@@ -5,7 +5,7 @@ ghost use Rattle.report.specs.Whole.{AsRecomputed, Reported};
 ghost use Rattle.std.specs.Prelude.{IfOk};
 
 use crate::report;
-use crate::whole::Report;
+use feed::whole::{FileError, FileText};
 use owned::OwnedStore;
 use std::alloc::{AllocError, Global};
 use store::capacity::Capacity;
@@ -13,9 +13,9 @@ use visit::Terms;
 
 // The report of a whole file by a store that may keep so much.
 // The text is that of `recompute` unless a command is refused for want of room or for a number past its bound.
-pub fn settle(heap: Global, capacity: Capacity, file: &[u8]) -> Result<Option<Report>, AllocError>
-    ensures report { IfOk result (λ o. Reported (settle_text capacity) file.now o) }
-    ensures same { IfOk result (λ o. AsRecomputed capacity file.now o) }
+pub fn settle(heap: Global, capacity: Capacity, file: &[u8]) -> Result<FileText, FileError>
+    ensures report { Reported (settle_text capacity) file.now result }
+    ensures same { AsRecomputed capacity file.now result }
 {
     report(
         heap,

@@ -4,7 +4,6 @@
 pub mod by_store;
 pub mod same;
 pub mod sessions;
-pub mod whole;
 
 ghost use Rattle.feed.specs.Files.{commands, unread as Unread};
 ghost use Rattle.report.specs.Texts.{recompute_text};
@@ -13,13 +12,13 @@ ghost use Rattle.std.specs.Prelude.{◌≡◌, List, ◌∷◌, ◌++◌, IfOk, 
 ghost use Rattle.command.specs.declared.Command.{Command};
 
 use command::Command;
-use feed::files::{Commands, TERMS_SIZE, read_terms};
+use feed::files::{Commands, read_terms};
 use feed::text::{put_answer, put_ledger};
+pub use feed::whole::{FileError, FileText};
 use reference::Reference;
 use sessions::Sessions;
 use std::alloc::{AllocError, Global};
 use visit::Terms;
-pub use whole::Report;
 
 // Does one command, and puts the text of its answer behind the text.
 fn apply_one<S: Sessions>(
@@ -39,7 +38,7 @@ pub fn run<S: Sessions + Drop>(
     heap: Global,
     mut sessions: S,
     bytes: &[u8],
-) -> Result<Report, AllocError>
+) -> Result<FileText, AllocError>
     ensures text { IfOk result (λ p. string_bytes p.text ≡ S.prints sessions (commands bytes.now)) }
     ensures rest { IfOk result (λ p. p.unread ≡ Unread bytes.now) }
 {
@@ -51,31 +50,28 @@ pub fn run<S: Sessions + Drop>(
     }
     let lines = sessions.ledger(heap)?;
     put_ledger(&mut text, &lines)?;
-    Ok(Report {
+    Ok(FileText {
         text,
         unread: commands.unread(),
     })
 }
 
-// The report of a whole file by what is made of its terms; None if the file is shorter than them.
+// The report of a whole file by what is made of its terms.
 fn report<S: Sessions + Drop, F: FnOnce(Terms) -> Result<S, AllocError>>(
     heap: Global,
     file: &[u8],
     start: F,
-) -> Result<Option<Report>, AllocError>
+) -> Result<FileText, FileError>
     requires { F.IsAlwaysCallable start }
-    ensures { IfOk result (λ o. ReportedBy (λ t s. F.post start t (Ok s)) S.prints file.now o) }
+    ensures { ReportedBy (λ t s. F.post start t (Ok s)) S.prints file.now result }
 {
-    let Some(terms) = read_terms(file) else {
-        return Ok(None);
-    };
-    let report = run(heap, start(terms)?, &file[TERMS_SIZE..])?;
-    Ok(Some(report))
+    let (terms, rest) = read_terms(file).ok_or(FileError::TooShort)?;
+    Ok(run(heap, start(terms)?, rest)?)
 }
 
 // The report of a whole file by the reference.
-pub fn recompute(heap: Global, file: &[u8]) -> Result<Option<Report>, AllocError>
-    ensures { IfOk result (λ o. Reported recompute_text file.now o) }
+pub fn recompute(heap: Global, file: &[u8]) -> Result<FileText, FileError>
+    ensures { Reported recompute_text file.now result }
 {
     report(heap, file, |terms| Ok(Reference::new(heap, terms)))
 }

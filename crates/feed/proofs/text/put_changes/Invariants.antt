@@ -3,4 +3,4 @@ use Rattle.feed.specs.Text.{changes_text}
 use Rattle.feed.proofs.text.put_changes.Given as goal
 
 abbrev pub invariant-loop-visit : goal.invariant-loop-visit
-invariant-loop-visit l = string_bytes l.text ≡ string_bytes l.initial.text ++ changes_text l.kind (take l.visit-index l.visits)
+invariant-loop-visit l = string_bytes l.text ≡ string_bytes l.initial.text ++ changes_text l.sign (take l.visit-index l.visits)

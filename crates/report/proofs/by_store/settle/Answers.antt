@@ -1,5 +1,4 @@
 use Rattle.std.proofs.Common.{ℕ, List, rules, ap, ◌∙◌}
-use Rattle.std.proofs.lemmas.Result.{IfOk-weaker}
 use Rattle.changes.specs.Room.{out_width}
 use Rattle.owned.specs.State.{IsNew, out_long, row_of}
 use Rattle.store.specs.declared.capacity.Capacity.{Capacity}
@@ -11,10 +10,10 @@ use Rattle.report.proofs.by_store.settle.Goals as goal
 pub returns-clause-report : goal.returns-clause-report
 returns-clause-report c =
     let cap = c.args.capacity in
-    IfOk-weaker c.report.result _ _ (λ o p. reported_by _ _ (settle_text cap) c.args.file.now o (λ t s cs made.
+    reported_by _ _ (settle_text cap) c.args.file.now c.report.result (λ t s cs made.
     let new : IsNew t cap s = search rules in
     ap (λ (k : Capacity). store_prints k (out_long s) (row_of s) cs) new.capacity ∙ ap (λ (n : ℕ). store_prints cap n (row_of s) cs) new.out
-    ∙ ap (λ (xs : List ℕ). store_prints cap out_width xs cs) new.row) p) c.report.ensures
+    ∙ ap (λ (xs : List ℕ). store_prints cap out_width xs cs) new.row) c.report.ensures
 
 pub returns-clause-same : goal.returns-clause-same
-returns-clause-same c = IfOk-weaker c.report.result _ _ (λ o p. as_recomputed c.args.capacity c.args.file.now o p) (returns-clause-report c)
+returns-clause-same c = as_recomputed c.args.capacity c.args.file.now c.report.result (returns-clause-report c)
