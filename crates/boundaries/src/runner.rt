@@ -2,7 +2,7 @@
 use crate::numbers::numbers;
 use crate::setup::{LINES, READINGS, Setup, Table, VISITS, cell, resize};
 use crate::show::{kept_word, show_out, show_store};
-use anyhow::anyhow;
+use anyhow::{Context, anyhow};
 use command::{Reply, reply_number, reply_value};
 use std::alloc::Global;
 use std::fmt::Write;
@@ -74,7 +74,7 @@ impl Runner {
     }
 
     fn begin(&mut self, heap: Global, name: &str) -> anyhow::Result<()> {
-        self.setup = self.base.copy()?;
+        self.setup = self.base.clone()?;
         self.name = String::from_str(heap, name)?;
         Ok(())
     }
@@ -82,7 +82,7 @@ impl Runner {
     fn perform(&mut self, heap: Global, word: &str, row: &[u64]) -> anyhow::Result<()> {
         match word {
             "new" => self.setup = Setup::new(heap)?,
-            "base" => self.base = self.setup.copy()?,
+            "base" => self.base = self.setup.clone()?,
             "size" => resize(&mut self.setup.store, cell(row, 0) as usize)?,
             "out" => self.setup.out_size = cell(row, 0) as usize,
             "small" => self.setup.capacity = Some(SMALL),
@@ -115,10 +115,8 @@ impl Runner {
     }
 
     fn append(&mut self, heap: Global, table: Table, row: &[u64]) -> anyhow::Result<()> {
-        match row.split_first() {
-            Some((count, numbers)) => self.setup.append_many(heap, table, *count, numbers),
-            None => Err(anyhow!("how many rows?")),
-        }
+        let (count, numbers) = row.split_first().context("how many rows?")?;
+        self.setup.append_many(heap, table, *count, numbers)
     }
 
     fn apply(&mut self, heap: Global, row: &[u64]) -> anyhow::Result<()> {
@@ -163,12 +161,13 @@ impl Runner {
         let name = self.name.as_str();
         let number = reply_number(reply);
         let value = reply_value(reply);
-        write!(self.text, "{name}: {number} {value}")?;
-        if reply.is_err() {
-            let kept = kept_word(out_kept && self.setup.store.as_slice() == before);
-            write!(self.text, " {kept}")?;
+        match reply {
+            Ok(_) => writeln!(self.text, "{name}: {number} {value}")?,
+            Err(_) => {
+                let kept = kept_word(out_kept && self.setup.store.as_slice() == before);
+                writeln!(self.text, "{name}: {number} {value} {kept}")?;
+            }
         }
-        self.text.push_str("\n")?;
         Ok(())
     }
 }

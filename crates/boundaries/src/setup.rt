@@ -1,4 +1,7 @@
 // What a command is done to, and within what: everything that a case can choose but the command.
+use rows::lines::LINE_WIDTH;
+use rows::readings::READING_WIDTH;
+use rows::visits::VISIT_WIDTH;
 use std::alloc::Global;
 use store::capacity::Capacity;
 use store::layout::{LINES_AT, OUT_SIZE, READINGS_AT, STORE_SIZE, VISITS_AT};
@@ -17,23 +20,23 @@ pub struct Table {
 pub const VISITS: Table = Table {
     count_at: 4,
     at: VISITS_AT,
-    width: 5,
+    width: VISIT_WIDTH,
 };
 
 pub const READINGS: Table = Table {
     count_at: 5,
     at: READINGS_AT,
-    width: 4,
+    width: READING_WIDTH,
 };
 
 pub const LINES: Table = Table {
     count_at: 6,
     at: LINES_AT,
-    width: 4,
+    width: LINE_WIDTH,
 };
 
 // Without a capacity the command is done with the whole layout's.
-#[derive(Drop)]
+#[derive(Clone, Drop)]
 pub struct Setup {
     pub store: Vec<u64>,
     pub out_size: usize,
@@ -44,21 +47,12 @@ pub struct Setup {
 pub fn resize(row: &mut Vec<u64>, size: usize) -> anyhow::Result<()> {
     row.truncate(size);
     // The place itself goes into the cell.
-    for i in row.len()..size {
-        row.push((i as u64).saturating_add(7_000_000))?;
-    }
+    row.extend((row.len()..size).map(|i| (i as u64).saturating_add(7_000_000)))?;
     Ok(())
 }
 
 pub fn cell(row: &[u64], at: usize) -> u64 {
     row.get(at).copied().unwrap_or(0)
-}
-
-// A case may have a short row: what is past its end is left out.
-fn put(row: &mut [u64], at: usize, value: u64) {
-    if let Some(cell) = row.get_mut(at) {
-        *cell = value;
-    }
 }
 
 impl Setup {
@@ -72,17 +66,10 @@ impl Setup {
         })
     }
 
-    pub fn copy(&self) -> anyhow::Result<Setup> {
-        Ok(Setup {
-            store: self.store.clone()?,
-            out_size: self.out_size,
-            capacity: self.capacity,
-        })
-    }
-
+    // A case may have a short row: what is past its end is left out.
     pub fn set(&mut self, at: usize, values: &[u64]) {
-        for (i, value) in values.iter().enumerate() {
-            put(self.store.as_mut_slice(), at.saturating_add(i), *value);
+        for (cell, value) in self.store.iter_mut().skip(at).zip(values) {
+            *cell = *value;
         }
     }
 
@@ -91,8 +78,7 @@ impl Setup {
         let count = cell(self.store.as_slice(), table.count_at);
         let offset = (count as usize).saturating_mul(table.width);
         self.set(table.at.saturating_add(offset), values);
-        let store = self.store.as_mut_slice();
-        put(store, table.count_at, count.saturating_add(1));
+        self.set(table.count_at, &[count.saturating_add(1)]);
     }
 
     // Several rows: the numbers of the first, then by how much each of them grows from row to row.
@@ -105,11 +91,11 @@ impl Setup {
     ) -> anyhow::Result<()> {
         // The row's number goes into its cells.
         for i in 0..count {
-            let mut row = Vec::new(heap);
-            for k in 0..table.width {
+            let number = |k: usize| {
                 let step = cell(numbers, k.saturating_add(table.width));
-                row.push(cell(numbers, k).wrapping_add(step.wrapping_mul(i)))?;
-            }
+                cell(numbers, k).wrapping_add(step.wrapping_mul(i))
+            };
+            let row: Vec<u64> = (0..table.width).map(number).collect(heap)?;
             self.append(table, row.as_slice());
         }
         Ok(())

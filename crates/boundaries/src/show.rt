@@ -1,4 +1,6 @@
 // What a case prints of the rows.
+use rows::out::OUT_HEAD;
+use rows::visits::VISIT_WIDTH;
 use std::fmt::Write;
 use store::layout::STORE_SIZE;
 
@@ -7,11 +9,9 @@ const SHOWN: usize = 60;
 
 // FNV-1a, a number at a time.
 fn hash(row: &[u64]) -> u64 {
-    let mut h = 0xcbf2_9ce4_8422_2325u64;
-    for x in row.iter() {
-        h = (h ^ *x).wrapping_mul(0x100_0000_01b3);
-    }
-    h
+    row.iter().fold(0xcbf2_9ce4_8422_2325, |hash, x| {
+        (hash ^ *x).wrapping_mul(0x100_0000_01b3)
+    })
 }
 
 // The end of a line: what was left out, and whether the numbers behind stayed.
@@ -42,7 +42,9 @@ pub fn show_out(
     before: &[u64],
     changed: u64,
 ) -> anyhow::Result<()> {
-    let end = (changed as usize).saturating_mul(5).saturating_add(2);
+    let end = (changed as usize)
+        .saturating_mul(VISIT_WIDTH)
+        .saturating_add(OUT_HEAD);
     let (written, behind) = cut(out, end);
     text.push_str("  out")?;
     for x in written.iter().take(SHOWN) {
@@ -51,18 +53,14 @@ pub fn show_out(
     end_line(text, written, written.len(), behind == cut(before, end).1)
 }
 
-// The cells of the layout that are not 0.
+// The cells of the layout that are not 0. The two rows are the store as it is and as it was.
 pub fn show_store(text: &mut String, store: &[u64], before: &[u64]) -> anyhow::Result<()> {
     let (layout, behind) = cut(store, STORE_SIZE);
-    let mut count = 0usize;
+    let is_shown = |cell: &(usize, &u64)| *cell.1 != 0;
+    let count = layout.iter().enumerate().filter(is_shown).count();
     text.push_str("  store")?;
-    for (i, x) in layout.iter().enumerate() {
-        if *x != 0 {
-            count = count.saturating_add(1);
-            if count <= SHOWN {
-                write!(text, " {i}={x}")?;
-            }
-        }
+    for (i, x) in layout.iter().enumerate().filter(is_shown).take(SHOWN) {
+        write!(text, " {i}={x}")?;
     }
     end_line(text, layout, count, behind == cut(before, STORE_SIZE).1)
 }

@@ -9,7 +9,7 @@ mod random;
 mod tests;
 
 use named::DAYS;
-use report::Report;
+use report::{FileError, FileText};
 use std::alloc::Global;
 use std::io::Write;
 use std::{env, fs};
@@ -49,9 +49,9 @@ fn random_day(heap: Global, seed: u64) -> anyhow::Result<Day> {
 }
 
 // The store must print what the reference prints; a difference is shown, and is not in the expected output.
-fn compare(rt: &HostRuntime, day: &Day, expected: &Report) -> anyhow::Result<()> {
+fn compare(rt: &HostRuntime, day: &Day, expected: &FileText) -> anyhow::Result<()> {
     let settled = report::by_store::settle(rt.alloc(), FULL, &day.file)?;
-    if settled.as_ref() != Some(expected) {
+    if settled != *expected {
         println!(rt; "the store prints something else")?;
     }
     Ok(())
@@ -68,9 +68,12 @@ fn show(rt: &HostRuntime, folder: Option<&str>, day: &Day) -> anyhow::Result<()>
         return Ok(());
     }
     println!(rt; "== {name}")?;
-    let Some(report) = report::recompute(heap, &day.file)? else {
-        println!(rt; "shorter than its terms")?;
-        return Ok(());
+    let report = match report::recompute(heap, &day.file) {
+        Err(FileError::TooShort) => {
+            println!(rt; "shorter than its terms")?;
+            return Ok(());
+        }
+        report => report?,
     };
     rt.stdout().write_all(report.text.as_bytes())?;
     compare(rt, day, &report)?;
@@ -88,6 +91,7 @@ fn run(rt: &HostRuntime) -> anyhow::Result<()> {
     for (name, text, tail) in DAYS {
         show(rt, folder, &named_day(heap, name, text, tail)?)?;
     }
+    // The number is the seed.
     for seed in 0..RANDOM_DAYS {
         show(rt, folder, &random_day(heap, seed)?)?;
     }

@@ -72,6 +72,7 @@ pub fn day(heap: Global, seed: u64) -> Result<Vec<u8>, EncodeError> {
     let mut file = Vec::new(heap);
     put_terms(&mut file, terms)?;
     let mut clock = 0u64;
+    // So many times: the numbers and the clock go on from command to command.
     for _ in 0..COMMANDS {
         if random.below(2) == 0 {
             clock = clock.saturating_add(random.below(terms.gap.saturating_add(4)));
