@@ -5,7 +5,8 @@
 # standard output, byte for byte, and exit status. One line per difference, the counts at the end;
 # status 1 if anything differs, 2 if something is missing or cannot be built.
 #
-# SETTLE and RECOMPUTE give other paths for the programs; set but empty leaves that one out.
+# SETTLE and RECOMPUTE give other programs, with options if need be; set but empty leaves that one out.
+# settle is run with --full, since the peer has no limits.
 # --slow adds slow.py, which takes some 0.1 s a day.
 set -euo pipefail
 
@@ -15,7 +16,7 @@ programs=()
 
 add() { # NAME PATH
     [[ -n $2 ]] || return 0
-    if [[ ! -x $2 ]]; then
+    if [[ ! -x ${2%% *} ]]; then
         echo "compare: there is no $1 at $2; build it in its folder with: rt run -- --version" >&2
         exit 2
     fi
@@ -32,7 +33,7 @@ if [[ $# -gt 2 || ! $count =~ ^[0-9]+$ || ! $seed =~ ^[0-9]+$ ]]; then
     echo "usage: compare.sh [--slow] [COUNT] [SEED]" >&2
     exit 2
 fi
-add settle "${SETTLE-$crates/settle/out/settle}"
+add settle "${SETTLE-$crates/settle/out/settle --full}"
 add recompute "${RECOMPUTE-$crates/recompute/out/recompute}"
 add slow.py "$slow"
 
@@ -56,7 +57,7 @@ for day in "$work"/days/*.day; do
     "$work/peer" "$day" >"$work/expected" 2>"$work/error" || status=$?
     for program in "${programs[@]}"; do
         its_status=0
-        "$program" "$day" >"$work/actual" 2>"$work/error" || its_status=$?
+        $program "$day" >"$work/actual" 2>"$work/error" || its_status=$?
         compared=$((compared + 1))
         cmp -s "$work/expected" "$work/actual" || differs "$day" "$program" "standard output"
         [[ $its_status == "$status" ]] || differs "$day" "$program" "status $its_status, not $status"

@@ -1,7 +1,7 @@
 -- What a word of the command line is.
 use Rattle.std.specs.Prelude.{◌≡◌, ℕ, List, codes, ◌≢◌, Ok, Err, Result, slice_index}
 use Rattle.cli.specs.declared.flags.Flag.{Flag}
-use Rattle.cli.specs.declared.flags.Flag.TheVariants.{Help, Version, Strict, Unpack, Name}
+use Rattle.cli.specs.declared.flags.Flag.TheVariants.{Help, Version, Strict, Unpack, Full, Name}
 use Rattle.cli.specs.declared.options.Usage.{Usage}
 use Rattle.cli.specs.declared.options.Usage.TheVariants.{UnknownOption}
 
@@ -11,10 +11,11 @@ Means word Help = word ≡ codes "--help"
 Means word Version = word ≡ codes "--version"
 Means word Strict = word ≡ codes "--strict"
 Means word Unpack = word ≡ codes "--unpack"
+Means word Full = word ≡ codes "--full"
 Means word Name = slice_index word 0 ≡ 45 → ⊥
 
 -- An option that is none of these is unknown.
 abbrev pub Reads : List ℕ → Result Flag Usage → Type 0
 Reads word (Ok flag) = Means word flag
 Reads word (Err e) =
-    (e ≡ UnknownOption) × (slice_index word 0 ≡ 45) × (word ≢ codes "--help") × (word ≢ codes "--version") × (word ≢ codes "--strict") × (word ≢ codes "--unpack")
+    (e ≡ UnknownOption) × (slice_index word 0 ≡ 45) × (word ≢ codes "--help") × (word ≢ codes "--version") × (word ≢ codes "--strict") × (word ≢ codes "--unpack") × (word ≢ codes "--full")

@@ -10,6 +10,7 @@ pub enum Flag {
     Version,
     Strict,
     Unpack,
+    Full,
     Name,
 }
 
@@ -30,6 +31,7 @@ impl TryFrom<&str> for Flag {
             "--version" => Ok(Flag::Version),
             "--strict" => Ok(Flag::Strict),
             "--unpack" => Ok(Flag::Unpack),
+            "--full" => Ok(Flag::Full),
             _ if is_option(word.as_bytes()) => Err(Usage::UnknownOption),
             _ => Ok(Flag::Name),
         }

@@ -12,6 +12,7 @@ pub struct Options {
     pub version: bool,
     pub strict: bool,
     pub unpack: bool,
+    pub full: bool,
     pub file: Option<String>,
 }
 
@@ -61,6 +62,7 @@ impl Options {
                 unpack: true,
                 ..self
             }),
+            Flag::Full => Ok(Options { full: true, ..self }),
             Flag::Name if self.file.is_some() => Err(Usage::TwoFiles),
             Flag::Name => Ok(Options {
                 file: Some(word),
