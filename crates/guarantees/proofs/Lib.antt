@@ -5,6 +5,7 @@ pub mod Refusing
 pub mod Lengths
 pub mod Roomy
 pub mod Standing
+pub mod Ordering
 pub mod Along
 pub mod Sums
 pub mod Limits

@@ -51,15 +51,17 @@ fn merge_all(gathered: &Gathered) -> Visit
     whole
 }
 
-// The near visits give way to one. The terms are asked for only to say which are near.
-pub fn merge_apart(table: &mut Table<'_, Visit>, gathered: &Gathered, _terms: Terms)
+// The near visits give way to one, which is given back. The terms are asked for only to say which are near.
+pub fn merge_apart(table: &mut Table<'_, Visit>, gathered: &Gathered, _terms: Terms) -> Visit
     requires room { HasRoom table.old 1 }
     requires order { (own gathered.now).from ≤ (own gathered.now).to }
     requires apart { Apart _terms (rows_of table.old) }
     requires gathers { Gathers _terms (own gathered.now) (rows_of table.old) gathered.now }
     requires fits { SumsFit (rows_of table.old) (own gathered.now).count (own gathered.now).sum }
+    ensures made { result ≡ merged_with (own gathered.now) gathered.now.near.items }
     ensures after { Becomes table.old table.new (max table.old.len table.new.len) (merge_in _terms (own gathered.now) (rows_of table.old)) }
 {
     let whole = merge_all(gathered);
     table.replace(gathered.at, gathered.near.len(), &[whole]);
+    whole
 }

@@ -114,3 +114,18 @@ written_sound xs amount taken h w =
     let n : length k.readings < count_limit = omega (arith, w.count, b.1) in
     let a : amounts k.readings < sum_limit = omega (arith, w.sum, b.0) in
     ap sound_row (w.row ∙ l.row) ∙ sound_by (clean_row w.terms (image w.terms k) rest) (sound_now w.terms k l.stands n a rest)
+
+-- Such a row is in order, and nothing in it has expired.
+apart_prop : (t : Terms) (vs : List Visit) → IsProp (Apart t vs)
+apart_prop t [] = search props
+apart_prop t (v ∷ vs) = let p = apart_prop t vs in search (props, p)
+
+pub written_orderly : (xs : List ℕ) (amount taken : ℕ) → Written xs amount taken → Orderly (terms_in xs) (store_in xs)
+written_orderly xs amount taken w =
+    let t : Terms = w.terms in
+    let k : Reference = reference_now t w.start w.calls in
+    let rest : List ℕ = drop store_size w.start in
+    let l = left_now t w.start w.calls in
+    let row = w.row ∙ l.row in
+    let held : store_in (clean_row t (image t k) rest) ≡ image t k = clean_store t (image t k) rest l.stands.roomy.fits in
+    subst (λ (ys : List ℕ). Orderly (terms_in ys) (store_in ys)) (sym row) (subst (Orderly t) (sym held) (image_orderly t k l.stands.sorted))

@@ -16,6 +16,7 @@ use command::cells::COMMAND_WIDTH;
 use command::{Answer, Command, Reply};
 use rows::limits::{COUNT_LIMIT, SUM_LIMIT};
 use rows::row::Row;
+use rows::search::Search;
 use rows::table::Rows;
 pub use state::OwnedStore;
 use std::alloc::{AllocError, Global};
@@ -98,7 +99,7 @@ impl OwnedStore {
         answer_of(heap, reply, self.out.as_slice())
     }
 
-    // Does a command to the row, which is looked through first unless it is known to be a store.
+    // Does a command to the row. Below their limits the totals say that it is a store; that it is in order always holds.
     fn reply_to(&mut self, command: Command) -> Reply
         ensures reply { result ≡ reply_of (outcome_to (capacity_of self.old) (row_of self.old) (out_long self.old) command) }
         ensures row { row_of self.new ≡ row_then (capacity_of self.old) (row_of self.old) (out_long self.old) command }
@@ -114,7 +115,7 @@ impl OwnedStore {
         let row = self.row.as_mut_slice();
         let out = self.out.as_mut_slice();
         if sound {
-            apply_sound(capacity, row, &cells, out)
+            apply_sound(capacity, Search::ByHalves, row, &cells, out)
         } else {
             apply_within(capacity, row, &cells, out)
         }

@@ -10,6 +10,7 @@ use Rattle.visit.specs.declared.Line.{Line}
 use Rattle.visit.specs.declared.Reading.{Reading}
 use Rattle.visit.specs.declared.Terms.{Terms}
 use Rattle.visit.specs.declared.Visit.{Visit}
+use Rattle.visit.specs.Readings.{too_late}
 use Rattle.visit.specs.Visits.{closed, merged, same_visit, single}
 use Rattle.command.specs.declared.Command.TheVariants.{Reading as AReading, Watermark}
 use Rattle.command.specs.declared.Refusal.TheVariants.{BadCommand, Full}
@@ -102,8 +103,9 @@ module _ (h : Header) (s : Store) (w : Within h s) where
   sums_fit : sums s.live ≤ 2 ^ 62
   sums_fit = omega (arith, sums_within s.live w.live, w.visits, w.counts.visits)
 
-  pub reading_allowed : (cap : Capacity) (e : Reading) → command_fault (AReading e) ≡ None → room_fault cap h s (AReading e) ≡ None → Performable h s (AReading e)
-  reading_allowed cap e bounds room =
+  pub reading_allowed : (cap : Capacity) (e : Reading) → command_fault (AReading e) ≡ None → room_fault cap h s (AReading e) ≡ None → too_late h.clock.terms s.watermark e ≡ false
+      → Performable h s (AReading e)
+  reading_allowed cap e bounds room timely =
       let t = h.clock.terms in
       let vs = s.live in
       let card = passes (ltb e.card word_limit) _ 1 (mapped_none BadCommand (first_field 1 (fields (AReading e))) bounds) in
@@ -121,7 +123,7 @@ module _ (h : Header) (s : Store) (w : Within h s) where
       let added_sum = new_sums t s.watermark s.watermark (merge_in t (single e) vs) vs in
       record {
         counts = w.counts;
-        draftable = (v_room, r_room, record { count = omega (arith, counts_fit); sum = omega (arith, sums_fit) });
+        draftable = (v_room, r_room, timely, record { count = omega (arith, counts_fit); sum = omega (arith, sums_fit) });
         visits = omega (arith, length_merged t (single e) vs, length_parts t (single e) vs, w.visits);
         readings = omega (arith, length_inserted t e s.seen, w.readings);
         lines = omega (arith, few);

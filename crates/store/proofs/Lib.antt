@@ -7,3 +7,4 @@ pub mod Allowed
 pub mod Passing
 pub mod Verdicts
 pub mod Cuts
+pub mod Settling

@@ -5,10 +5,11 @@ use Rattle.std.proofs.lemmas.List.Edits.{length-between}
 use Rattle.std.proofs.lemmas.Bool.{ltb-false}
 use Rattle.std.proofs.lemmas.Option.{none-some}
 use Rattle.visit.specs.declared.Terms.{Terms}
+use Rattle.visit.specs.Readings.{too_late}
 use Rattle.command.specs.declared.Command.{Command}
 use Rattle.command.specs.declared.Command.TheVariants.{Reading as AReading, Watermark}
 use Rattle.command.specs.declared.Refusal.{Refusal}
-use Rattle.command.specs.declared.Refusal.TheVariants.{BadCommand, BadStore, Backwards, ShortOut}
+use Rattle.command.specs.declared.Refusal.TheVariants.{BadCommand, BadStore, Backwards, ShortOut, TooLate}
 use Rattle.command.specs.Bounds.{command_fault}
 use Rattle.command.specs.Outcomes.{Outcome, reply_of}
 use Rattle.model.specs.Store.{Store, draft, finish, store_outcome_by}
@@ -54,7 +55,8 @@ draft_stands t s (Watermark m) none = grind arith
 
 pub allowed_for : (cap : Capacity) (h : Header) (s : Store) → Within h s → s.watermark ≡ h.clock.watermark → (c : Command) → command_fault c ≡ None → room_fault cap h s c ≡ None
     → refusal_of (draft h.clock.terms s c) ≡ None → Performable h s c
-allowed_for cap h s w same (AReading e) bounds room rules = reading_allowed h s w cap e bounds room
+allowed_for cap h s w same (AReading e) bounds room rules =
+    reading_allowed h s w cap e bounds room (spared_too (too_late h.clock.terms s.watermark e) (TooLate e.time) _ rules).0
 allowed_for cap h s w same (Watermark m) bounds room rules =
     let back = spared_too (ltb m s.watermark) (Backwards m) (Ok (draft_of h.clock.terms (before s) (Watermark m))) rules in
     watermark_allowed h s w cap m room (omega (arith, ltb-false _ _ back.0)) same

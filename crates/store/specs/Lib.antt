@@ -6,4 +6,5 @@ pub mod Faults
 pub mod Views
 pub mod Checks
 pub mod Steps
+pub mod Order
 pub mod Applied

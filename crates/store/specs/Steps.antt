@@ -1,10 +1,11 @@
 -- A command step by step: what it drafts, and then its end.
-use Rattle.std.specs.Prelude.{◌≡◌, ℕ, ◌+◌, ◌<◌, ◌≤◌, List, length}
+use Rattle.std.specs.Prelude.{◌≡◌, ℕ, ◌+◌, ◌<◌, ◌≤◌, false, List, length}
 use Rattle.visit.specs.declared.Clock.{Clock}
 use Rattle.visit.specs.declared.Line.{Line}
 use Rattle.visit.specs.declared.Reading.{Reading}
 use Rattle.visit.specs.declared.Terms.{Terms}
 use Rattle.visit.specs.declared.Visit.{Visit}
+use Rattle.visit.specs.Readings.{too_late}
 use Rattle.visit.specs.Sums.{SumsFit, sums}
 use Rattle.visit.specs.Visits.{single}
 use Rattle.command.specs.declared.Command.{Command}
@@ -50,15 +51,16 @@ gone_of t b c = difference t (closed_after t b) (closed_after t (draft_of t b c)
 abbrev pub new_of : Terms → Draft → Command → List Visit
 new_of t b c = difference t (closed_after t (draft_of t b c)) (closed_after t b)
 
--- What a command needs, so that it can be drafted: room for a visit and for a reading, and sums that fit in 64 bits; a watermark does not go back.
-abbrev pub Draftable : (visit_room reading_room : Type 0) → Draft → Command → Type 0
-Draftable v r b (AReading e) = v × r × SumsFit b.live 1 e.amount
-Draftable v r b (Watermark m) = b.watermark ≤ m
+-- What a command needs, so that it can be drafted: room for a visit and for a reading that is not too late, and sums that fit in 64 bits;
+-- a watermark does not go back.
+abbrev pub Draftable : (visit_room reading_room : Type 0) → Terms → Draft → Command → Type 0
+Draftable v r t b (AReading e) = v × r × (too_late t b.watermark e ≡ false) × SumsFit b.live 1 e.amount
+Draftable v r t b (Watermark m) = b.watermark ≤ m
 
 -- And so that it can be finished.
 pub record Performable (h : Header) (s : Store) (c : Command) : Type 0 where
   pub counts : Counted h
-  pub draftable : Draftable (h.visits < visits_room) (h.readings < readings_room) (before s) c
+  pub draftable : Draftable (h.visits < visits_room) (h.readings < readings_room) h.clock.terms (before s) c
   pub visits : length (draft_of h.clock.terms (before s) c).live ≤ visits_room
   pub readings : length (draft_of h.clock.terms (before s) c).seen ≤ readings_room
   pub lines : h.lines + length (new_of h.clock.terms (before s) c) ≤ lines_room

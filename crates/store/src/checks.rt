@@ -3,10 +3,15 @@ ghost use Rattle.std.specs.Prelude.{◌≡◌, ◌+◌, ◌^◌, ◌<◌, [], �
 ghost use Rattle.command.specs.Bounds.{terms_fault, unless};
 ghost use Rattle.command.specs.declared.Refusal.TheVariants.{BadStore};
 ghost use Rattle.rows.specs.Limits.{first_over};
+ghost use Rattle.rows.specs.Search.{Allows};
 ghost use Rattle.std.specs.List.{repeat};
 ghost use Rattle.std.specs.Option.{option_map};
 ghost use Rattle.store.specs.Checks.{checked, sound_row};
+ghost use Rattle.store.specs.Contents.{store_in, terms_in};
 ghost use Rattle.store.specs.Faults.{first_fault, out_fault, store_faults, watermark_fault};
+ghost use Rattle.store.specs.Order.{Orderly};
+ghost use Rattle.visit.specs.Order.{RisingBy};
+ghost use Rattle.visit.specs.Readings.{reading_before};
 
 use crate::capacity::Capacity;
 use crate::header::Header;
@@ -18,6 +23,7 @@ use command::{Command, Refusal, TIME_LIMIT, check_terms};
 use live::open::open_count;
 use rows::limits::over;
 use rows::row::Row;
+use rows::search::Search;
 use rows::table::Rows;
 use seen::contains;
 use visit::Clock;
@@ -82,6 +88,7 @@ fn check_out(out: usize) -> Result<(), Refusal>
 
 impl View<'_> {
     ghost use Rattle.model.specs.Store.{draft as DraftOf};
+    ghost use Rattle.rows.specs.Tables.{rows_seen};
     ghost use Rattle.store.specs.Checks.{refusal_of};
     ghost use Rattle.store.specs.Faults.{room_fault};
     ghost use Rattle.store.specs.Views.{header_seen, store_seen};
@@ -113,7 +120,8 @@ impl View<'_> {
 
     // Not too late, no duplicate, and not backwards. As in the reference, which searches a `Vec`: one function for both would get the
     // search as a closure, and each caller would have to say its contract again.
-    pub fn check_rules(&self, command: Command) -> Result<(), Refusal>
+    pub fn check_rules(&self, command: Command, search: Search) -> Result<(), Refusal>
+        requires { Allows search (RisingBy (reading_before self.now.clock.terms) (rows_seen self.now.readings)) }
         ensures { result ≡ unless (refusal_of (DraftOf self.now.clock.terms (store_seen self.now) command)) tt }
     {
         match command {
@@ -121,7 +129,7 @@ impl View<'_> {
                 if reading.too_late(self.clock) {
                     return Err(Refusal::TooLate(reading.time));
                 }
-                if contains(self.readings, reading, self.clock.terms) {
+                if contains(self.readings, reading, self.clock.terms, search) {
                     return Err(Refusal::Duplicate(reading.time));
                 }
             }
@@ -136,8 +144,15 @@ impl View<'_> {
 }
 
 // All that is asked of a command to a store, in its order.
-pub fn check(capacity: Capacity, store: &[u64], row: &[u64], out: usize) -> Result<Ready, Refusal>
-    requires { sound_row store.now ≡ true }
+pub fn check(
+    capacity: Capacity,
+    search: Search,
+    store: &[u64],
+    row: &[u64],
+    out: usize,
+) -> Result<Ready, Refusal>
+    requires sound { sound_row store.now ≡ true }
+    requires order { Allows search (Orderly (terms_in store.now) (store_in store.now)) }
     ensures { result ≡ checked capacity store.now row.now out }
 {
     let view = View::new(store);
@@ -145,7 +160,7 @@ pub fn check(capacity: Capacity, store: &[u64], row: &[u64], out: usize) -> Resu
     let command = Command::try_from(row)?;
     check_out(out)?;
     view.check_room(capacity, command)?;
-    view.check_rules(command)?;
+    view.check_rules(command, search)?;
     Ok(Ready {
         header: view.header(),
         command,

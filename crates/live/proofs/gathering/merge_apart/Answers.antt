@@ -41,4 +41,4 @@ returns c =
     let merged : take c.args.gathered.now.at vs ++ (c.merge_all-whole.result ∷ drop (c.args.gathered.now.at + c.len.result) vs) ≡ merge_in terms v vs =
     rw (c.requires.gathers.place, len, whole) (sym (merged_together terms v vs c.requires.order c.requires.apart)) in
     let many = len_replaced c.args.gathered.now.at c.len.result (c.merge_all-whole.result ∷ []) (omega (arith, c.requires.gathers.place, len, within)) c.replace.ensures.after in
-    record { after = becomes_as c.replace.ensures.after (omega (arith, many, len, within)) merged }
+    record { made = c.merge_all-whole.ensures; after = becomes_as c.replace.ensures.after (omega (arith, many, len, within)) merged }
