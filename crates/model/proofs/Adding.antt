@@ -6,13 +6,14 @@ use Rattle.std.proofs.lemmas.Bool.{both_ways, not-true}
 use Rattle.std.proofs.lemmas.Bool.Decides.{nat_tests}
 use Rattle.visit.specs.declared.Terms.{Terms}
 use Rattle.visit.specs.declared.Visit.{Visit}
+use Rattle.visit.specs.Order.{RisingBy}
 use Rattle.visit.specs.Visits.{closed, same_visit, visit_before}
 use Rattle.command.specs.declared.Command.{Command}
 use Rattle.command.specs.declared.Refusal.{Refusal}
 use Rattle.model.specs.AddsUp.{AllSound, ChangesAddUp, Sound, applied_all, applied_to, put_all_in, put_in}
 use Rattle.model.specs.Reference.{Reference, after, closed_of, empty, outcome_by, outcomes, plan, state_by, step}
 use Rattle.model.specs.Sessions.{changes, difference, some, visits}
-use Rattle.model.proofs.Common.{RisingBy, same_itself, same_visits, some_kept}
+use Rattle.model.proofs.Common.{same_itself, same_visits, some_kept}
 use Rattle.model.proofs.Order.{Apart, Follows, SortedReadings, step_sorted, visits_apart}
 use Rattle.model.proofs.Same.{rising_kept, same_members, some_decides}
 

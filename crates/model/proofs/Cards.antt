@@ -6,6 +6,7 @@ use Rattle.std.proofs.lemmas.Bool.{both_ways}
 use Rattle.visit.specs.declared.Reading.{Reading}
 use Rattle.visit.specs.declared.Terms.{Terms}
 use Rattle.visit.specs.declared.Visit.{Visit}
+use Rattle.visit.specs.Chains.{reading_chained}
 use Rattle.visit.specs.Readings.{reading_before, same_reading}
 use Rattle.visit.specs.Visits.{closed, joins}
 use Rattle.command.specs.declared.Command.{Command}
@@ -14,7 +15,7 @@ use Rattle.model.specs.Cards.{CardsApart, of_cards}
 use Rattle.model.specs.Reference.{Reference, after, closed_of, empty, step}
 use Rattle.model.specs.Sessions.{contains, insert_reading, prepend, visits}
 use Rattle.model.proofs.Common.{kept_commute}
-use Rattle.model.proofs.Order.{Apart, NotAfter, SortedReadings, before_before, reference_sorted, sorted_not_after, step_sorted, visits_apart}
+use Rattle.model.proofs.Order.{Apart, NotAfter, SortedReadings, reference_sorted, sorted_not_after, step_sorted, visits_apart}
 
 -- The readings, the visits and the state of some cards.
 abbrev pub readings_by : (ℕ → Bool) → List Reading → List Reading
@@ -41,7 +42,7 @@ insert_front t e [] a = refl
 insert_front t e (x ∷ xs) a = simp a.0
 
 not_before : (t : Terms) (e x : Reading) → reading_before t x e ≡ false → (y : Reading) → reading_before t x y ≡ true → reading_before t y e ≡ false
-not_before t e x h y b = grind (arith, before_before)
+not_before t e x h y b = grind (arith, reading_chained)
 
 -- Putting a reading in, and taking the part.
 insert_by : (t : Terms) (p : ℕ → Bool) (e : Reading) (xs : List Reading) → SortedReadings t xs → p e.card ≡ true

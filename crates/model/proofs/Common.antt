@@ -21,11 +21,6 @@ abbrev pub split : {P : Type 0} (b : Bool) → (b ≡ true → P) → (b ≡ fal
 split true f g = f refl
 split false f g = g refl
 
--- Each element comes before all that follow it.
-abbrev pub RisingBy : {X : Type 0} → (X → X → Bool) → List X → Type 0
-RisingBy before [] = Unit {0}
-RisingBy before (x ∷ xs) = AllByRecursion (λ y. before x y ≡ true) xs × RisingBy before xs
-
 -- Two things that hold of all elements.
 pub all_both : {X : Type 0} (P Q : X → Type 0) (xs : List X) → AllByRecursion P xs → AllByRecursion Q xs → AllByRecursion (λ x. P x × Q x) xs
 all_both P Q [] a b = tt

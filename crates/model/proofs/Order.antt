@@ -7,13 +7,15 @@ use Rattle.std.proofs.lemmas.Bool.Decides.{nat_tests}
 use Rattle.visit.specs.declared.Reading.{Reading}
 use Rattle.visit.specs.declared.Terms.{Terms}
 use Rattle.visit.specs.declared.Visit.{Visit}
+use Rattle.visit.specs.Chains.{reading_chained}
+use Rattle.visit.specs.Order.{RisingBy}
 use Rattle.visit.specs.Readings.{gap_of, reading_before, same_reading}
 use Rattle.visit.specs.Visits.{grown, joins, merged, same_visit, single}
 use Rattle.command.specs.declared.Command.{Command}
 use Rattle.command.specs.declared.Command.TheVariants.{Reading as AReading, Watermark}
 use Rattle.model.specs.Reference.{Reference, after, empty, step}
 use Rattle.model.specs.Sessions.{contains, insert_reading, prepend, visits}
-use Rattle.model.proofs.Common.{Absent, RisingBy, split}
+use Rattle.model.proofs.Common.{Absent, split}
 
 -- Each reading comes before all that follow it.
 abbrev pub SortedReadings : Terms → List Reading → Type 0
@@ -43,10 +45,6 @@ unpassed_not_after t x y q = (grind (arith, nat_tests), grind (arith, nat_tests)
 pub unpassed_next : (t : Terms) (e x : Reading) → reading_before t x e ≡ false → (y : Reading) → reading_before t x y ≡ true → NotAfter e (single y)
 unfolding reading_before
 unpassed_next t e x p y q = (grind (arith, nat_tests), grind (arith, nat_tests))
-
-pub before_before : (t : Terms) (x y z : Reading) → reading_before t x y ≡ true → reading_before t y z ≡ true → reading_before t x z ≡ true
-unfolding reading_before
-before_before t x y z p q = grind (arith, nat_tests)
 
 -- Visits of readings that are not before x are not before x.
 joined_not_after : (t : Terms) (x y : Reading) (v : Visit) → NotAfter x (single y) → joins t y v ≡ true → x.card ≡ v.card → x.time ≤ y.time
@@ -133,7 +131,7 @@ insert_sorted t e (x ∷ xs) c s =
     (λ q. simp q (all_insert t (λ y. reading_before t x y ≡ true) e xs q s.0, insert_sorted t e xs d.1 s.1))
     (λ q. simp q
     (let b = unpassed_before t e x d.0 q in
-    ((b, All-weaker (λ y. reading_before t x y ≡ true) (λ y. reading_before t e y ≡ true) (λ y h. before_before t e x y b h) xs s.0), s)))
+    ((b, All-weaker (λ y. reading_before t x y ≡ true) (λ y. reading_before t e y ≡ true) (λ y h. reading_chained t e x y b h) xs s.0), s)))
 
 -- Every state of the reference is sorted.
 pub step_sorted : (t : Terms) (k : Reference) (c : Command) → SortedReadings t k.readings → SortedReadings t (step t k c).readings

@@ -5,11 +5,11 @@ use Rattle.std.proofs.ByRecursion.{All-get_or, all-has, all_kept_by}
 use Rattle.std.proofs.lemmas.Bool.Decides.{Decides-by_or, nat_tests}
 use Rattle.visit.specs.declared.Reading.{Reading}
 use Rattle.visit.specs.declared.Terms.{Terms}
+use Rattle.visit.specs.Order.{RisingBy}
 use Rattle.visit.specs.Readings.{reading_before}
 use Rattle.model.specs.Order.{AnyOrder}
 use Rattle.model.specs.Reference.{Reference, after, closed_of, empty}
 use Rattle.model.specs.Sessions.{some}
-use Rattle.model.proofs.Common.{RisingBy}
 use Rattle.model.proofs.Order.{reference_sorted}
 
 pub rising_at : {X : Type 0} (before : X → X → Bool) (xs : List X) → RisingBy before xs → (i j : ℕ) (d : X) → i < j → j < length xs → before (get_or xs i d) (get_or xs j d) ≡ true

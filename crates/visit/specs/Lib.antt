@@ -1,7 +1,9 @@
 pub mod Limits
+pub mod Order
 pub mod Readings
 pub mod Visits
 pub mod Lines
 pub mod Text
 pub mod Sums
 pub mod Cells
+pub mod Chains

@@ -2,6 +2,7 @@
 #![tactic(auto)]
 
 ghost use Rattle.std.specs.Prelude.{◌≡◌, ◌+◌, ◌^◌, ◌<◌};
+ghost use Rattle.visit.specs.Chains.{line_chained, reading_chained, visit_chained};
 ghost use Rattle.visit.specs.Lines.{day_of, line_before, line_minus, line_of, line_plus, same_key};
 ghost use Rattle.visit.specs.Readings.{gap_of, reading_before, same_reading, kept as Kept, too_late as Late};
 ghost use Rattle.visit.specs.Visits.{grown as Grown, joins as Joins, merged, near as Near, same_visit, single as Single, visit_before, closed as Closed, expired as Expired, live as Live};
@@ -121,6 +122,8 @@ impl Reading {
 impl Ordered for Reading {
     ghost precedes = { reading_before };
 
+    ghost chained = { reading_chained };
+
     fn before(self, other: Reading, _terms: Terms) -> bool {
         (self.card, self.time, self.serial) < (other.card, other.time, other.serial)
     }
@@ -212,6 +215,8 @@ impl Visit {
 impl Ordered for Visit {
     ghost precedes = { visit_before };
 
+    ghost chained = { visit_chained };
+
     fn before(self, other: Visit, _terms: Terms) -> bool {
         (self.card, self.from) < (other.card, other.from)
     }
@@ -255,6 +260,8 @@ impl Line {
 #[tactic(auto, using(crate::proofs::Orders::pair_before), unfolding(crate::specs::Lines::line_before))]
 impl Ordered for Line {
     ghost precedes = { line_before };
+
+    ghost chained = { line_chained };
 
     fn before(self, other: Line, _terms: Terms) -> bool {
         (self.card, self.day) < (other.card, other.day)

@@ -2,6 +2,7 @@
 ghost use Rattle.std.specs.Iterator.{AlwaysYields, UpTo, size};
 ghost use Rattle.std.specs.List.{prefix_len};
 ghost use Rattle.std.specs.Prelude.{◌≡◌, ◌-◌, ◌^◌, ◌≤◌, Bool, List};
+ghost use Rattle.visit.specs.Order.{Chained};
 ghost use Rattle.visit.specs.declared.Terms.{Terms};
 
 use crate::Terms;
@@ -11,6 +12,9 @@ pub trait Ordered: Copy {
 
     fn before(self, other: Self, terms: Terms) -> bool
         ensures { result ≡ precedes terms self other };
+
+    // What each `impl` has to prove.
+    ghost chained: { (t : Terms) → Chained (precedes t) };
 }
 
 // How many items come before this one, from the front.
