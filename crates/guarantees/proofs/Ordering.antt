@@ -19,7 +19,7 @@ use Rattle.store.specs.Order.{Orderly}
 
 lined_rising : (t : Terms) (ls : List Line) → Lined t ls → RisingBy (line_before t) ls
 lined_rising t [] l = tt
-lined_rising t (x ∷ xs) l = (l.1.0, lined_rising t xs l.1.1)
+lined_rising t (x ∷ xs) l = (l.1, lined_rising t xs l.2)
 
 pub image_orderly : (t : Terms) (k : Reference) → SortedReadings t k.readings → Orderly t (image t k)
 image_orderly t k s =

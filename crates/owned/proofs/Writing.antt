@@ -1,22 +1,37 @@
 -- Rows that commands have written: each command keeps them so, and they are stores while the totals are below their limits.
-use Rattle.std.proofs.Common.{◌≡◌, ℕ, ◌+◌, ◌<◌, ◌≤◌, min, true, ltb, List, [], ◌∷◌, ◌++◌, length, drop, Some, None, Err, Option, Result, sym, refl, ap, ◌∙◌, subst, arith}
-use mathlib.Core.Logic.{∥∥₁_map}
+use Rattle.std.proofs.Common.{◌≡◌, ℕ, ◌+◌, ◌<◌, ◌≤◌, min, Bool, true, ltb, List, [], ◌∷◌, ◌++◌, length, drop, Some, None, Err, Option, Result, sym, refl, ap, ◌∙◌, subst, arith}
+use mathlib.Core.Logic.{∥∥₁_map, ∥∥₁_elim}
+use base.Stored.{Coded-set}
 use Rattle.std.proofs.lemmas.Bool.Decides.{nat_tests}
+use Rattle.std.specs.Coded.{coded_list}
+use Rattle.std.specs.List.{AllByRecursion-prop}
+use Rattle.std.proofs.Math.Bridge.{le_prop}
+use mathlib.Core.Bool.{Bool-set}
+use Rattle.visit.specs.contracts.Reading as reading_row
+use Rattle.visit.specs.contracts.Visit as visit_row
+use Rattle.visit.specs.declared.Clock.{Clock}
+use Rattle.visit.specs.declared.Reading.{Reading}
 use Rattle.visit.specs.declared.Terms.{Terms}
-use Rattle.visit.specs.Readings.{too_late}
+use Rattle.visit.specs.declared.Visit.{Visit}
+use Rattle.visit.specs.Lines.{line_before}
+use Rattle.visit.specs.Order.{RisingBy}
+use Rattle.visit.specs.Readings.{reading_before, too_late}
+use Rattle.live.specs.Apart.{Apart, WellBefore}
 use Rattle.command.specs.declared.Command.{Command}
 use Rattle.command.specs.declared.Command.TheVariants.{Reading as AReading, Watermark}
 use Rattle.command.specs.declared.Refusal.{Refusal}
 use Rattle.command.specs.Numbers.{Reply}
 use Rattle.model.specs.Reference.{Reference, empty, plan, state_by}
 use Rattle.model.specs.Sessions.{contains}
+use Rattle.model.specs.Store.{Store}
 use Rattle.model.proofs.Common.{split}
 use Rattle.model.proofs.Mirror.{image}
 use Rattle.rows.specs.Limits.{count_limit, sum_limit}
 use Rattle.store.specs.declared.capacity.Capacity.{Capacity}
 use Rattle.store.specs.Applied.{applied}
 use Rattle.store.specs.Checks.{sound_row}
-use Rattle.store.specs.Contents.{empty_row}
+use Rattle.store.specs.Contents.{empty_row, store_in, terms_in}
+use Rattle.store.specs.Order.{Orderly, Settled}
 use Rattle.command.specs.Cells.{command_in, command_cells}
 use Rattle.store.specs.Faults.{first_fault}
 use Rattle.store.specs.Layout.{store_size}
@@ -26,7 +41,9 @@ use Rattle.guarantees.specs.Calls.{Call, answer, row_left}
 use Rattle.guarantees.specs.Faithful.{call_faults, next, planned, reference_left, withheld}
 use Rattle.guarantees.specs.Rows.{clean_row}
 use Rattle.guarantees.proofs.Along.{left_now}
+use Rattle.guarantees.proofs.Clean.{clean_store}
 use Rattle.guarantees.proofs.Growing.{amounts, amounts_insert}
+use Rattle.guarantees.proofs.Ordering.{image_orderly}
 use Rattle.guarantees.proofs.Lengths.{length-insert}
 use Rattle.guarantees.proofs.Sound.{sound_now}
 use Rattle.owned.specs.Written.{Written, amount_in, below_limits}
@@ -115,17 +132,41 @@ written_sound xs amount taken h w =
     let a : amounts k.readings < sum_limit = omega (arith, w.sum, b.0) in
     ap sound_row (w.row ∙ l.row) ∙ sound_by (clean_row w.terms (image w.terms k) rest) (sound_now w.terms k l.stands n a rest)
 
--- Such a row is in order, and nothing in it has expired.
+-- That a store is in order is a mere fact.
 apart_prop : (t : Terms) (vs : List Visit) → IsProp (Apart t vs)
-apart_prop t [] = search props
-apart_prop t (v ∷ vs) = let p = apart_prop t vs in search (props, p)
+apart_prop t [] p q = refl
+apart_prop t (v ∷ vs) p q = λ i.
+    (le_prop p.0 q.0 i, AllByRecursion-prop (WellBefore t v) (λ w a b j. (le_prop a.0 b.0 j, λ h. le_prop (a.1 h) (b.1 h) j)) vs p.1 q.1 i, apart_prop t vs p.2 q.2 i)
 
-pub written_orderly : (xs : List ℕ) (amount taken : ℕ) → Written xs amount taken → Orderly (terms_in xs) (store_in xs)
-written_orderly xs amount taken w =
+rising_prop : {X : Type 0} (before : X → X → Bool) (xs : List X) → IsProp (RisingBy before xs)
+rising_prop before [] p q = refl
+rising_prop before (x ∷ xs) p q = λ i. (AllByRecursion-prop (λ y. before x y ≡ true) (λ y. Bool-set _ _) xs p.0 q.0 i, rising_prop before xs p.1 q.1 i)
+
+settled_prop : (k : Clock) (vs : List Visit) (es : List Reading) → IsProp (Settled k vs es)
+settled_prop k vs es p q = λ i. record {
+  visits = Coded-set (coded_list visit_row.the_row.coded) _ _ p.visits q.visits i;
+  readings = Coded-set (coded_list reading_row.the_row.coded) _ _ p.readings q.readings i;
+}
+
+orderly_prop : (t : Terms) (s : Store) → IsProp (Orderly t s)
+orderly_prop t s p q = λ i. record {
+  current = record {
+    visits = apart_prop t s.live p.current.visits q.current.visits i;
+    readings = rising_prop (reading_before t) s.seen p.current.readings q.current.readings i;
+    settled = settled_prop (record { terms = t; watermark = s.watermark }) s.live s.seen p.current.settled q.current.settled i;
+  };
+  lines = rising_prop (line_before t) s.ledger p.lines q.lines i;
+}
+
+-- Such a row is in order, and nothing in it has expired.
+by_calls : (xs : List ℕ) (amount taken : ℕ) → Written xs amount taken → Orderly (terms_in xs) (store_in xs)
+by_calls xs amount taken w =
     let t : Terms = w.terms in
     let k : Reference = reference_now t w.start w.calls in
     let rest : List ℕ = drop store_size w.start in
     let l = left_now t w.start w.calls in
-    let row = w.row ∙ l.row in
     let held : store_in (clean_row t (image t k) rest) ≡ image t k = clean_store t (image t k) rest l.stands.roomy.fits in
-    subst (λ (ys : List ℕ). Orderly (terms_in ys) (store_in ys)) (sym row) (subst (Orderly t) (sym held) (image_orderly t k l.stands.sorted))
+    subst (λ (ys : List ℕ). Orderly (terms_in ys) (store_in ys)) (sym (w.row ∙ l.row)) (subst (Orderly t) (sym held) (image_orderly t k l.stands.sorted))
+
+pub written_orderly : (xs : List ℕ) (amount taken : ℕ) → ∥ Written xs amount taken ∥₁ → Orderly (terms_in xs) (store_in xs)
+written_orderly xs amount taken w = ∥∥₁_elim w (orderly_prop (terms_in xs) (store_in xs)) (by_calls xs amount taken)

@@ -8,3 +8,4 @@ pub mod Passing
 pub mod Verdicts
 pub mod Cuts
 pub mod Settling
+pub mod Nearest

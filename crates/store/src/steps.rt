@@ -7,6 +7,7 @@ ghost use Rattle.live.specs.Apart.{Apart};
 ghost use Rattle.model.specs.Sessions.{insert_reading};
 ghost use Rattle.model.specs.Store.{kept_only, live_only, merge_in, posted};
 ghost use Rattle.rows.specs.Search.{Allows};
+ghost use Rattle.rows.specs.declared.search.Search.TheVariants.{ByHalves};
 ghost use Rattle.rows.specs.Tables.{Becomes, HasRoom, rows_of, rows_seen};
 ghost use Rattle.store.specs.Header.{header_cells};
 ghost use Rattle.store.specs.Layout.{header_width};
@@ -103,8 +104,19 @@ fn draft_reading(
     changed
 }
 
-// What a command makes of the tables before anything expires. A watermark leaves them as they are, and only one that rises can make
-// anything expire where nothing had.
+// Whether nothing can have expired after a command: nothing had where the store is in order, and then only a watermark that rises
+// makes anything expire.
+fn stays_settled(search: Search, clock: Clock, command: Command) -> bool
+    ensures { result ≡ true → (search ≡ ByHalves) × (clock_by clock command ≡ clock) }
+{
+    match (search, command) {
+        (Search::FromFront, _) => false,
+        (Search::ByHalves, Command::Reading(_)) => true,
+        (Search::ByHalves, Command::Watermark(watermark)) => watermark == clock.watermark,
+    }
+}
+
+// What a command makes of the tables before anything expires. A watermark leaves them as they are.
 pub fn draft(
     visits: &mut Table<'_, Visit>,
     readings: &mut Table<'_, Reading>,
@@ -122,22 +134,40 @@ pub fn draft(
     ensures out { OutAfter (changes_of clock.terms (standing clock visits.old readings.old) command) result.changed out.old out.new }
     ensures settled { result.settled ≡ true → Settled result.clock (rows_of visits.new) (rows_of readings.new) }
 {
-    let ordered = search.needs_order();
+    let settled = stays_settled(search, clock, command);
     match command {
         Command::Reading(reading) => Drafted {
             clock,
             changed: draft_reading(visits, readings, clock, reading, search, out),
-            settled: ordered,
+            settled,
         },
         Command::Watermark(watermark) => Drafted {
             clock: Clock { watermark, ..clock },
             changed: by_watermark(visits.rows(), clock, watermark, out),
-            settled: ordered && watermark == clock.watermark,
+            settled,
         },
     }
 }
 
-// One end for every kind of command: the ledger by what has changed, then what has expired goes, if anything can have, then the header.
+// What has expired goes, unless it is known that nothing has.
+fn expire(
+    visits: &mut Table<'_, Visit>,
+    readings: &mut Table<'_, Reading>,
+    clock: Clock,
+    settled: bool,
+)
+    requires { settled ≡ true → Settled clock (rows_of visits.old) (rows_of readings.old) }
+    ensures visits { Becomes visits.old visits.new visits.old.len (live_only clock.terms clock.watermark (rows_of visits.old)) }
+    ensures readings { Becomes readings.old readings.new readings.old.len (kept_only clock.terms clock.watermark (rows_of readings.old)) }
+{
+    if settled {
+        return;
+    }
+    live::expiry::expire(visits, clock);
+    seen::expire(readings, clock);
+}
+
+// One end for every kind of command: the ledger by what has changed, then what has expired goes, then the header.
 pub fn finish(
     head: &mut [u64],
     visits: &mut Table<'_, Visit>,
@@ -159,10 +189,7 @@ pub fn finish(
 {
     let Drafted { clock, settled, .. } = drafted;
     post(lines, changed, clock.terms, search);
-    if !settled {
-        live::expiry::expire(visits, clock);
-        seen::expire(readings, clock);
-    }
+    expire(visits, readings, clock, settled);
     let header = Header {
         clock,
         visits: visits.len,

@@ -2,9 +2,12 @@ use Rattle.std.proofs.Common.{length, Err, sym, ap, ◌∙◌, subst, arith}
 use Rattle.std.proofs.lemmas.Result.{err_from_is_err_and}
 use Rattle.command.specs.Outcomes.{reply_of}
 use Rattle.changes.specs.Out.{outcome_row, overlay}
+use Rattle.rows.specs.Search.{Allows}
+use Rattle.store.specs.declared.header.Header.{Header}
 use Rattle.store.specs.Applied.{outcome_in, row_by}
 use Rattle.store.specs.Contents.{store_of}
-use Rattle.store.specs.Parts.{Parts, parts_from, whole}
+use Rattle.store.specs.Order.{Orderly}
+use Rattle.store.specs.Parts.{Parts, parts, parts_from, whole}
 use Rattle.store.specs.Steps.{Performable, Performed}
 use Rattle.store.proofs.Bounds.{sized_by}
 use Rattle.store.proofs.Cuts.{cut_parts}
@@ -13,13 +16,13 @@ use Rattle.store.proofs.Verdicts.{bare, out_is, out_long, performs, reply_is, st
 use Rattle.store.proofs.applying.apply_sound.Goals as goal
 
 pub split_at_mut-visits-requires : goal.split_at_mut-visits-requires
-split_at_mut-visits-requires c = omega (arith, (sized_by c.args.store.now c.requires).size)
+split_at_mut-visits-requires c = omega (arith, (sized_by c.args.store.now c.requires.sound).size)
 
 pub split_at_mut-readings-requires : goal.split_at_mut-readings-requires
-split_at_mut-readings-requires c = omega (arith, (sized_by c.args.store.now c.requires).size)
+split_at_mut-readings-requires c = omega (arith, (sized_by c.args.store.now c.requires.sound).size)
 
 pub split_at_mut-lines-requires : goal.split_at_mut-lines-requires
-split_at_mut-lines-requires c = omega (arith, (sized_by c.args.store.now c.requires).size)
+split_at_mut-lines-requires c = omega (arith, (sized_by c.args.store.now c.requires.sound).size)
 
 pub perform-requires-clause-performable : goal.perform-requires-clause-performable
 perform-requires-clause-performable c =
@@ -32,6 +35,18 @@ perform-requires-clause-performable c =
     c.split_at_mut-head.ensures.front c.split_at_mut-head.ensures.back c.split_at_mut-visits.ensures.front c.split_at_mut-visits.ensures.back
     c.split_at_mut-readings.ensures.front c.split_at_mut-readings.ensures.back c.split_at_mut-lines.ensures.front c.split_at_mut-lines.ensures.back in
     subst (λ (p : Parts). Performable q.header (store_of q.header (bare p)) q.command) (sym cut) (performs c.args.capacity xs cs n q (passed_by c.args.capacity xs cs n q c.in_ok-ready.ensures))
+
+pub perform-requires-clause-order : goal.perform-requires-clause-order
+perform-requires-clause-order c =
+    let xs = c.args.store.now in
+    let q = c.in_ok-ready.ready in
+    let ok = passed_by c.args.capacity xs c.args.row.now (length c.args.out.now) q c.in_ok-ready.ensures in
+    let cut = cut_parts c.args.store.now c.split_at_mut-head.result.0.now c.split_at_mut-visits.result.0.now c.split_at_mut-readings.result.0.now c.split_at_mut-lines.result.0.now
+    c.split_at_mut-head.result.1.now c.split_at_mut-visits.result.1.now c.split_at_mut-readings.result.1.now c.split_at_mut-lines.result.1.now
+    c.split_at_mut-head.ensures.front c.split_at_mut-head.ensures.back c.split_at_mut-visits.ensures.front c.split_at_mut-visits.ensures.back
+    c.split_at_mut-readings.ensures.front c.split_at_mut-readings.ensures.back c.split_at_mut-lines.ensures.front c.split_at_mut-lines.ensures.back in
+    subst (λ (p : Parts). Allows c.args.search (Orderly q.header.clock.terms (store_of q.header (bare p)))) (sym cut)
+    (subst (λ (h : Header). Allows c.args.search (Orderly h.clock.terms (store_of h (parts xs)))) (sym ok.header) c.requires.order)
 
 pub perform-requires-clause-out : goal.perform-requires-clause-out
 perform-requires-clause-out c =

@@ -7,8 +7,8 @@ use Rattle.store.proofs.Bounds.{sound_if}
 use Rattle.store.proofs.Verdicts.{refused_unsound}
 use Rattle.store.proofs.applying.apply_within.Goals as goal
 
-pub apply_sound-requires : goal.apply_sound-requires
-apply_sound-requires c = sound_if c.args.store.now c.in_ok-check_sound.ensures
+pub apply_sound-requires-clause-sound : goal.apply_sound-requires-clause-sound
+apply_sound-requires-clause-sound c = sound_if c.args.store.now c.in_ok-check_sound.ensures
 
 pub returns-in_err-check_sound : goal.returns-in_err-check_sound
 returns-in_err-check_sound c =

@@ -9,11 +9,21 @@ use Rattle.rows.specs.Out.{new_count}
 use Rattle.rows.specs.Tables.{rows_of, rows_seen}
 use Rattle.rows.proofs.Becoming.{becomes_as, becomes_len}
 use Rattle.store.specs.Contents.{store_of}
+use Rattle.store.specs.Order.{Orderly}
 use Rattle.store.specs.Parts.{parts_from}
 use Rattle.store.specs.Steps.{before, changes_of, draft_of, gone_of, new_of}
 use Rattle.store.proofs.Ending.{clock_after, filtered, gone_read, held_in, new_read, parts_are, row_within, stands}
+use Rattle.store.proofs.Settling.{allows_part}
 use Rattle.store.proofs.Views.{rows_at}
 use Rattle.store.proofs.applying.perform.Goals as goal
+
+pub draft-drafted-requires-clause-order : goal.draft-drafted-requires-clause-order
+draft-drafted-requires-clause-order c =
+    let q = c.args.ready in
+    let k = q.header.clock in
+    let p = parts_from c.args.head.now c.args.visits.now c.args.readings.now c.args.lines.now in
+    let is = stands k c.new-visits.result c.new-readings.result q.header.visits q.header.readings p.visits p.readings c.new-visits.ensures.cells c.new-visits.ensures.len c.new-readings.ensures.cells c.new-readings.ensures.len in
+    rw is (allows_part c.args.search (λ (o : Orderly k.terms (store_of q.header p)). o.current) c.requires.order)
 
 pub read-changed-requires-clause-within : goal.read-changed-requires-clause-within
 read-changed-requires-clause-within c =
@@ -24,6 +34,16 @@ read-changed-requires-clause-within c =
     let is = stands k c.new-visits.result c.new-readings.result q.header.visits q.header.readings p.visits p.readings c.new-visits.ensures.cells c.new-visits.ensures.len c.new-readings.ensures.cells c.new-readings.ensures.len in
     let written = c.draft-drafted.ensures.out.out ∙ ap (λ (x : Draft). overlay (outcome_row (changes_of k.terms x q.command)) c.args.out.now) is in
     row_within (gone_of k.terms b q.command) (new_of k.terms b q.command) c.args.out.now c.draft-drafted.new.out written
+
+pub finish-requires-clause-order : goal.finish-requires-clause-order
+finish-requires-clause-order c =
+    let q = c.args.ready in
+    let k = q.header.clock in
+    let p = parts_from c.args.head.now c.args.visits.now c.args.readings.now c.args.lines.now in
+    let b = before (store_of q.header p) in
+    let clock = c.draft-drafted.ensures.clock ∙ clock_after k b q.command refl in
+    rw (clock, rows_at c.new-lines.result q.header.lines p.lines c.new-lines.ensures.cells c.new-lines.ensures.len)
+    (allows_part c.args.search (λ (o : Orderly k.terms (store_of q.header p)). o.lines) c.requires.order)
 
 pub finish-requires-clause-fits : goal.finish-requires-clause-fits
 finish-requires-clause-fits c =

@@ -1,4 +1,4 @@
-use Rattle.std.proofs.Common.{◌≡◌, ℕ, List, length, vec_items, sym, refl, ap, ◌∙◌, arith}
+use Rattle.std.proofs.Common.{◌≡◌, ℕ, List, length, vec_items, sym, refl, ap, ◌∙◌, subst, arith}
 use mathlib.Core.Bool.{Bool-set}
 use mathlib.Core.Logic.{∥∥₁_elim}
 use Rattle.std.proofs.lemmas.List.{with_items_is}
@@ -7,18 +7,25 @@ use Rattle.command.specs.Cells.{command_cells}
 use Rattle.store.specs.declared.capacity.Capacity.{Capacity}
 use Rattle.store.specs.Applied.{Applied, applied}
 use Rattle.store.specs.Checks.{sound_row}
-use Rattle.owned.proofs.Writing.{written_sound, written_then}
+use Rattle.store.specs.Contents.{store_in, terms_in}
+use Rattle.store.specs.Order.{Orderly}
+use Rattle.owned.proofs.Writing.{written_orderly, written_sound, written_then}
 use Rattle.owned.proofs.state.OwnedStore.reply_to.Goals as goal
 
 -- What is done to the slices is done to what they lend.
 same : (cap : Capacity) (cmd : Command) (xs ys cs os zs : List ℕ) → xs ≡ ys → cs ≡ command_cells cmd → os ≡ zs → applied cap xs cs os ≡ applied cap ys (command_cells cmd) zs
 same cap cmd xs ys cs os zs row cells out = ap (λ l. applied cap l cs os) row ∙ ap (λ l. applied cap ys l os) cells ∙ ap (applied cap ys (command_cells cmd)) out
 
-pub apply_sound-requires : goal.apply_sound-requires
-apply_sound-requires c =
+pub apply_sound-requires-clause-sound : goal.apply_sound-requires-clause-sound
+apply_sound-requires-clause-sound c =
     let s = c.args.self.now in
     ∥∥₁_elim s.written (Bool-set _ _)
     (λ w. ap sound_row c.as_mut_slice-row.ensures.value ∙ written_sound (vec_items s.row) s.amount s.taken (sym c.below_limits-sound.ensures ∙ c.if-sound.true) w)
+
+pub apply_sound-requires-clause-order : goal.apply_sound-requires-clause-order
+apply_sound-requires-clause-order c =
+    let s = c.args.self.now in
+    subst (λ (xs : List ℕ). Orderly (terms_in xs) (store_in xs)) (sym c.as_mut_slice-row.ensures.value) (written_orderly (vec_items s.row) s.amount s.taken s.written)
 
 pub invariant_of-self : goal.invariant_of-self
 invariant_of-self c =

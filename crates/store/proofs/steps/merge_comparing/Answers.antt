@@ -13,7 +13,7 @@ use Rattle.changes.specs.Out.{OutAfter}
 use Rattle.changes.proofs.Merging.{by_comparing}
 use Rattle.live.proofs.Placing.{merged, others_few, place_fits, room_stays, same_len}
 use Rattle.store.proofs.Views.{seen_at}
-use Rattle.store.proofs.steps.draft_reading.Goals as goal
+use Rattle.store.proofs.steps.merge_comparing.Goals as goal
 
 -- What is found by comparing is what merging the reading's visit changes.
 found : (k : Clock) (e : Reading) {v : Visit} {p : Placed} (vs : List Visit) {rows : List Visit} → v ≡ single e → p ≡ placed_of k.terms v vs → rows ≡ left_over k.terms v vs ++ taken_in k.terms v vs
@@ -30,7 +30,7 @@ pub place-requires : goal.place-requires
 place-requires c =
     let is = c.set_aside-placed.ensures.placed in
     let aside = c.set_aside-placed.ensures.after in
-    record { place = place_fits c.args.clock.terms c.single.result is aside; few = others_few c.args.clock.terms c.single.result is aside; room = room_stays c.args.clock.terms c.single.result is aside c.requires.visits }
+    record { place = place_fits c.args.clock.terms c.single.result is aside; few = others_few c.args.clock.terms c.single.result is aside; room = room_stays c.args.clock.terms c.single.result is aside c.requires.room }
 
 pub returns-clause-visits : goal.returns-clause-visits
 returns-clause-visits c =
