@@ -4,6 +4,7 @@ pub mod Fields
 pub mod Limits
 pub mod Tests
 pub mod Tables
+pub mod Search
 pub mod Visits
 pub mod Readings
 pub mod Lines

@@ -9,5 +9,6 @@ pub mod lines;
 pub mod out;
 pub mod readings;
 pub mod row;
+pub mod search;
 pub mod table;
 pub mod visits;
