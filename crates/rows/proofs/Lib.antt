@@ -10,3 +10,4 @@ pub mod Replaced
 pub mod Holding
 pub mod Becoming
 pub mod Running
+pub mod Halves

@@ -1,11 +1,12 @@
 // The rows that stand first in lent memory.
-ghost use Rattle.std.specs.Prelude.{◌≡◌, ℕ, ◌+◌, ◌-◌, ◌*◌, ◌<◌, ◌≤◌, ◌++◌, Bool, [], ◌∷◌, MatchOption, length, take, drop, filter, slice_index_or, slice_set};
+ghost use Rattle.std.specs.Prelude.{◌≡◌, ℕ, ◌+◌, ◌-◌, ◌*◌, ◌<◌, ◌≤◌, ◌↔◌, ◌++◌, Bool, [], ◌∷◌, IsTrue, MatchOption, length, take, drop, filter, slice_index_or, slice_set};
 ghost use Rattle.rows.specs.Cells.{shifted};
 
 use crate::access::{put, put_all};
 use crate::cells::{clear, close, open};
 use crate::limits::over;
 use crate::row::Row;
+use crate::search::Search;
 use std::alloc::AllocError;
 use std::marker::PhantomData;
 use visit::{Ordered, Terms, place};
@@ -114,15 +115,50 @@ impl<'a, R: Row> Rows<'a, R> {
 }
 
 impl<R: Row + Ordered> Rows<'_, R> {
+    ghost use Rattle.rows.specs.Search.{Allows};
     ghost use Rattle.rows.specs.Tables.{rows_seen};
     ghost use Rattle.std.specs.List.{prefix_len};
+    ghost use Rattle.visit.specs.Order.{RisingBy};
 
-    // How many rows come before this one, from the front.
-    pub fn place(&self, row: R, terms: Terms) -> usize
+    // How many rows come before this one, up to the first that does not.
+    pub fn place(&self, row: R, terms: Terms, search: Search) -> usize
+        requires order { Allows search (RisingBy (R.precedes terms) (rows_seen self.now)) }
         ensures within { result ≤ self.now.len }
         ensures before { result ≡ prefix_len (λ x. R.precedes terms x row) (rows_seen self.now) }
     {
-        place(self.iter(), row, terms)
+        match search {
+            Search::FromFront => place(self.iter(), row, terms),
+            Search::ByHalves => self.place_by_halves(row, terms),
+        }
+    }
+
+    // The place is between `low` and `high`.
+    #[tactic(auto, using(crate::proofs::Halves::place_within))]
+    fn place_by_halves(&self, row: R, terms: Terms) -> usize
+        requires order { RisingBy (R.precedes terms) (rows_seen self.now) }
+        ensures within { result ≤ self.now.len }
+        ensures before { result ≡ prefix_len (λ x. R.precedes terms x row) (rows_seen self.now) }
+    {
+        let mut low = 0;
+        let mut high = self.len;
+        while low < high {
+            let mid = low + (high - low) / 2;
+            if self.is_before(mid, row, terms) {
+                low = mid + 1;
+            } else {
+                high = mid;
+            }
+        }
+        low
+    }
+
+    // Whether row `at` comes before this one, which in order says on which side of it the place is.
+    fn is_before(&self, at: usize, row: R, terms: Terms) -> bool
+        requires order { RisingBy (R.precedes terms) (rows_seen self.now) }
+        requires within { at < self.now.len }
+        ensures { IsTrue result ↔ at < prefix_len (λ x. R.precedes terms x row) (rows_seen self.now) }
+    {
+        self.row(at).before(row, terms)
     }
 }
 
