@@ -1,10 +1,14 @@
 -- Near visits collected one after the other.
-use Rattle.std.proofs.Common.{◌≡◌, ℕ, ◌+◌, ◌<◌, ◌≤◌, List, [], ◌∷◌, ◌++◌, length, sym, ap, ◌∙◌, arith}
+use Rattle.std.proofs.Common.{◌≡◌, ℕ, zero, suc, ◌+◌, ◌-◌, ◌<◌, ◌≤◌, true, false, List, [], ◌∷◌, ◌++◌, length, drop, sym, refl, ap, ◌∙◌, arith}
+use Rattle.std.specs.List.{AllByRecursion, prefix_len}
+use Rattle.std.proofs.lemmas.Bool.Decides.{nat_tests}
 use Rattle.std.proofs.lemmas.List.{append_assoc, append-nil, length-append}
 use Rattle.arrayvec.specs.ArrayVec.{ArrayVec}
 use Rattle.visit.specs.declared.Terms.{Terms}
 use Rattle.visit.specs.declared.Visit.{Visit}
-use Rattle.live.specs.Apart.{Apart, Gathers}
+use Rattle.visit.specs.Visits.{near, visit_before}
+use Rattle.model.proofs.Common.{split}
+use Rattle.live.specs.Apart.{Apart, Gathers, WellBefore}
 use Rattle.live.specs.Steps.{step_of}
 use Rattle.live.specs.declared.steps.Step.TheVariants.{Take, Pass, Stop}
 use Rattle.live.proofs.Stepping.{passed_before, stopped_neither, taken_near}
@@ -15,6 +19,29 @@ pub record Collected (t : Terms) (u : Visit) (vs items : List Visit) (at : ℕ) 
   pub held : items ++ met t u rest ≡ met t u vs
   pub place : at + passed t u rest ≡ passed t u vs
   pub behind : at + length rest ≤ length vs
+
+-- A visit is not near to u if one that stands well behind it comes before u.
+far_before : (t : Terms) (u v w : Visit) → WellBefore t v w → visit_before t w u ≡ true → near t u v ≡ false
+unfolding near visit_before
+far_before t u v w b q = grind (arith, nat_tests)
+
+far_in_front : (t : Terms) (u v : Visit) (ws : List Visit) → AllByRecursion (WellBefore t v) ws → 0 < prefix_len (λ w. visit_before t w u) ws → near t u v ≡ false
+far_in_front t u v [] a some = absurd (omega arith)
+far_in_front t u v (w ∷ ws) a some = split (visit_before t w u) (far_before t u v w a.0) (λ b. absurd (omega (arith, simp b at some)))
+
+-- So the walk may begin at the last visit before u.
+pub collected_from : (t : Terms) (u : Visit) (vs : List Visit) (k : ℕ) → Apart t vs → k ≤ prefix_len (λ w. visit_before t w u) vs - 1
+    → Collected t u vs [] k (drop k vs)
+collected_from t u vs zero p h = record { held = refl; place = omega arith; behind = omega arith }
+collected_from t u [] (suc k) p h = absurd (omega arith)
+collected_from t u (v ∷ vs) (suc k) p h =
+    split (visit_before t v u)
+    (λ b.
+    let more = simp b at h in
+    let far = far_in_front t u v vs p.1 (omega (arith, more)) in
+    let rest = collected_from t u vs k p.2 (omega (arith, more)) in
+    record { held = simp (far, b) rest.held; place = simp (far, b) (omega (arith, rest.place)); behind = omega (arith, rest.behind) })
+    (λ b. absurd (omega (arith, simp b at h)))
 
 module _ {t : Terms} {u : Visit} {vs : List Visit} (moment : u.from ≡ u.to) (apart : Apart t vs) where
   module _ {near : ArrayVec Visit} {at : ℕ} {rest : List Visit} (so : Collected t u vs near.items at rest) where

@@ -1,13 +1,16 @@
 // A visit merged into visits that are in order and apart, of which it is near to two at most.
-ghost use Rattle.std.specs.Prelude.{◌≡◌, ◌+◌, ◌^◌, ◌<◌, ◌≤◌, max};
+ghost use Rattle.std.specs.Prelude.{◌≡◌, ◌+◌, ◌-◌, ◌^◌, ◌<◌, ◌≤◌, max};
+ghost use Rattle.std.specs.List.{prefix_len};
 ghost use Rattle.live.specs.Apart.{Apart, Gathers, own};
 ghost use Rattle.rows.specs.Tables.{Becomes, HasRoom, rows_of, rows_seen};
 ghost use Rattle.visit.specs.Sums.{SumsFit};
+ghost use Rattle.visit.specs.Visits.{visit_before};
 ghost use Rattle.model.specs.Few.{merged_with};
 ghost use Rattle.model.specs.Store.{merge_in};
 
 use crate::steps::{Step, next_step};
 use arrayvec::ArrayVec;
+use rows::search::Search;
 use rows::table::{Rows, Table};
 use visit::{Terms, Visit};
 
@@ -26,10 +29,24 @@ pub fn gather(rows: Rows<'_, Visit>, visit: Visit, terms: Terms) -> Gathered
     ensures own { own result ≡ visit }
     ensures gathers { Gathers terms visit (rows_seen rows.entry) result }
 {
+    // Of the rows before the visit only the last can be near.
+    let before = rows.place(visit, terms, Search::ByHalves);
+    gather_from(rows, before.saturating_sub(1), visit, terms)
+}
+
+// The same by a walk from row `start` on. Those in front of it are passed: behind each stands another that is still before the visit.
+fn gather_from(rows: Rows<'_, Visit>, start: usize, visit: Visit, terms: Terms) -> Gathered
+    requires moment { visit.from ≡ visit.to }
+    requires apart { Apart terms (rows_seen rows) }
+    requires passed { start ≤ prefix_len (λ x. visit_before terms x visit) (rows_seen rows) - 1 }
+    ensures own { own result ≡ visit }
+    ensures gathers { Gathers terms visit (rows_seen rows.entry) result }
+{
+    let (_, rest) = rows.split_at(start);
     let mut near = ArrayVec::new();
     // Counted by hand, since the place is a part of the answer.
-    let mut at = 0;
-    for row in rows {
+    let mut at = start;
+    for row in rest {
         match next_step(visit, row, terms) {
             Step::Take => near.push(row),
             Step::Pass => at += 1,

@@ -150,13 +150,38 @@ const EXPIRED: [(&str, u64, usize, &[[u64; 5]]); 6] = [
     ("all are expired", 91, 0, &[]),
 ];
 
-// What it is, the gap, the readings (card, time, amount) in the order in which they came, the most rows that there were, and the rows afterwards.
-const JOINED: [(&str, u64, &[[u64; 3]], usize, &[[u64; 5]]); 6] = [
-    ("no reading", 10, &[], 0, &[]),
+// What it is, the gap, the readings (card, time, amount) in the order in which they came, the place of the last one and how many it was near to, the most rows that there were, and the rows afterwards.
+const JOINED: [(&str, u64, &[[u64; 3]], (usize, usize), usize, &[[u64; 5]]); 17] = [
+    ("no reading", 10, &[], (0, 0), 0, &[]),
+    (
+        "the first reading",
+        10,
+        &[[1, 5, 1]],
+        (0, 0),
+        1,
+        &[[1, 5, 5, 1, 1]],
+    ),
     (
         "the gap after the one before",
         10,
         &[[1, 5, 1], [1, 15, 2]],
+        (0, 1),
+        1,
+        &[[1, 5, 15, 2, 3]],
+    ),
+    (
+        "the gap and one after the one before",
+        10,
+        &[[1, 5, 1], [1, 16, 2]],
+        (1, 0),
+        2,
+        &[[1, 5, 5, 1, 1], [1, 16, 16, 1, 2]],
+    ),
+    (
+        "the gap before the other",
+        10,
+        &[[1, 15, 1], [1, 5, 2]],
+        (0, 1),
         1,
         &[[1, 5, 15, 2, 3]],
     ),
@@ -164,29 +189,97 @@ const JOINED: [(&str, u64, &[[u64; 3]], usize, &[[u64; 5]]); 6] = [
         "the gap and one before the other",
         10,
         &[[1, 16, 1], [1, 5, 2]],
+        (0, 0),
         2,
         &[[1, 5, 5, 1, 2], [1, 16, 16, 1, 1]],
     ),
     (
-        "between two",
+        "between two, the gap from both",
         10,
         &[[1, 0, 1], [1, 20, 2], [2, 10, 3], [1, 10, 4]],
+        (0, 2),
         3,
         &[[1, 0, 20, 3, 7], [2, 10, 10, 1, 3]],
+    ),
+    (
+        "between two, the gap from the first alone",
+        10,
+        &[[1, 0, 1], [1, 21, 2], [1, 10, 3]],
+        (0, 1),
+        2,
+        &[[1, 0, 10, 2, 4], [1, 21, 21, 1, 2]],
+    ),
+    (
+        "between two, the gap from the second alone",
+        10,
+        &[[1, 0, 1], [1, 21, 2], [1, 11, 3]],
+        (1, 1),
+        2,
+        &[[1, 0, 0, 1, 1], [1, 11, 21, 2, 5]],
+    ),
+    (
+        "between two, the gap and one from both",
+        10,
+        &[[1, 0, 1], [1, 22, 2], [1, 11, 3]],
+        (1, 0),
+        3,
+        &[[1, 0, 0, 1, 1], [1, 11, 11, 1, 3], [1, 22, 22, 1, 2]],
+    ),
+    (
+        "before three",
+        10,
+        &[[1, 20, 1], [1, 40, 2], [1, 60, 3], [1, 10, 4]],
+        (0, 1),
+        3,
+        &[[1, 10, 20, 2, 5], [1, 40, 40, 1, 2], [1, 60, 60, 1, 3]],
+    ),
+    (
+        "after three",
+        10,
+        &[[1, 20, 1], [1, 40, 2], [1, 60, 3], [1, 70, 4]],
+        (2, 1),
+        3,
+        &[[1, 20, 20, 1, 1], [1, 40, 40, 1, 2], [1, 60, 70, 2, 7]],
+    ),
+    (
+        "within a visit that began earlier, the second of three",
+        10,
+        &[[1, 0, 1], [1, 20, 2], [1, 30, 3], [1, 60, 4], [1, 25, 5]],
+        (1, 1),
+        3,
+        &[[1, 0, 0, 1, 1], [1, 20, 30, 3, 10], [1, 60, 60, 1, 4]],
     ),
     (
         "the card between two others",
         10,
         &[[3, 5, 1], [1, 5, 2], [2, 5, 3], [2, 14, 4]],
+        (1, 1),
         3,
         &[[1, 5, 5, 1, 2], [2, 5, 14, 2, 7], [3, 5, 5, 1, 1]],
     ),
     (
-        "gap 0",
+        "a new card between two others",
+        10,
+        &[[1, 5, 1], [3, 5, 2], [2, 5, 3]],
+        (1, 0),
+        3,
+        &[[1, 5, 5, 1, 1], [2, 5, 5, 1, 3], [3, 5, 5, 1, 2]],
+    ),
+    (
+        "gap 0, the first",
         0,
         &[[1, 5, 1], [1, 6, 2], [1, 5, 3]],
+        (0, 1),
         2,
         &[[1, 5, 5, 2, 4], [1, 6, 6, 1, 2]],
+    ),
+    (
+        "gap 0, the second",
+        0,
+        &[[1, 5, 1], [1, 6, 2], [1, 6, 3]],
+        (1, 1),
+        2,
+        &[[1, 5, 5, 1, 1], [1, 6, 6, 2, 5]],
     ),
 ];
 
@@ -243,8 +336,8 @@ fn merges(rt: HostRuntime) {
     }
 }
 
-// How many visits the readings make, and the table; None if there is no room, or a number is over its limit.
-fn joined(readings: &[[u64; 3]], gap: u64) -> Option<(usize, [u64; 21])> {
+// The place of the last reading and how many it was near to, how many visits the readings make, and the table; None if there is no room, or a number is over its limit.
+fn joined(readings: &[[u64; 3]], gap: u64) -> Option<((usize, usize), usize, [u64; 21])> {
     let terms = Terms {
         gap,
         lateness: 30,
@@ -252,6 +345,7 @@ fn joined(readings: &[[u64; 3]], gap: u64) -> Option<(usize, [u64; 21])> {
     };
     let mut cells = [7; 21];
     let mut table = Table::new(&mut cells, 0);
+    let mut last = (0, 0);
     for reading in readings {
         let [card, time, sum] = *reading;
         if table.len > 3 || sum > 10 {
@@ -268,16 +362,17 @@ fn joined(readings: &[[u64; 3]], gap: u64) -> Option<(usize, [u64; 21])> {
             sum,
         };
         let gathered = gather(table.rows(), visit, terms);
+        last = (gathered.at, gathered.near.len());
         merge_apart(&mut table, &gathered, terms);
     }
     let many = table.len;
-    Some((many, cells))
+    Some((last, many, cells))
 }
 
 #[test]
 fn joins(rt: HostRuntime) {
-    for (what, gap, readings, most, after) in JOINED {
-        let expected = (after.len(), cells_of(after, most));
+    for (what, gap, readings, last, most, after) in JOINED {
+        let expected = (last, after.len(), cells_of(after, most));
         assert_eq!(rt; joined(readings, gap), Some(expected), "{}", what);
     }
 }

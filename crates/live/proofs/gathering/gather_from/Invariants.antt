@@ -1,6 +1,6 @@
 use Rattle.rows.specs.Tables.{rows_left, rows_seen}
 use Rattle.live.proofs.Collecting.{Collected}
-use Rattle.live.proofs.gathering.gather.Given as goal
+use Rattle.live.proofs.gathering.gather_from.Given as goal
 
 abbrev pub invariant-loop-row : goal.invariant-loop-row
 invariant-loop-row l =
