@@ -505,7 +505,33 @@ impl Tally {
 
 // ---- Files ------------------------------------------------------------------------------------
 
-fn write_day(day: &mut Day, commands: u64, kind: &str, count: u64, path: &str) -> Result<(), Box<dyn Error>> {
+struct Arguments {
+    shape: Shape,
+    commands: u64,
+    path: String,
+    kind: String,
+    count: u64,
+}
+
+fn read_arguments() -> Result<Arguments, Box<dyn Error>> {
+    let given: Vec<String> = env::args().skip(1).collect();
+    let (shape, commands, path, kind, count) = match given.as_slice() {
+        [shape, commands, path] => (shape, commands, path, "", "0"),
+        [shape, commands, path, kind, count] => (shape, commands, path, &**kind, &**count),
+        _ => return Err("usage: generate small|large COMMANDS FILE [KIND COUNT]".into()),
+    };
+    let shape = match shape.as_str() {
+        "small" => Shape::SMALL,
+        "large" => Shape::LARGE,
+        _ => return Err(format!("no shape {shape}; there are: small, large").into()),
+    };
+    let (commands, count) = (commands.parse()?, count.parse()?);
+    Ok(Arguments { shape, commands, path: path.clone(), kind: kind.to_string(), count })
+}
+
+fn generate() -> Result<(), Box<dyn Error>> {
+    let Arguments { shape, commands, path, kind, count } = read_arguments()?;
+    let mut day = Day::new(shape, commands);
     let mut file = BufWriter::with_capacity(1 << 16, File::create(path)?);
     for term in [day.state.gap, day.state.lateness, day.state.day_length] {
         file.write_all(&term.to_le_bytes())?;
@@ -514,7 +540,7 @@ fn write_day(day: &mut Day, commands: u64, kind: &str, count: u64, path: &str) -
     for number in 0..commands + count {
         let command = match number < commands {
             true => day.command(),
-            false => day.of_kind(kind)?,
+            false => day.of_kind(&kind)?,
         };
         let refusal = day.state.apply(&command);
         tally.count(&command, refusal, &day.state);
@@ -523,23 +549,6 @@ fn write_day(day: &mut Day, commands: u64, kind: &str, count: u64, path: &str) -
     file.flush()?;
     tally.tell(&day.state);
     Ok(())
-}
-
-fn generate() -> Result<(), Box<dyn Error>> {
-    let arguments: Vec<String> = env::args().skip(1).collect();
-    let arguments: Vec<&str> = arguments.iter().map(String::as_str).collect();
-    let (shape, commands, path, kind, count) = match arguments.as_slice() {
-        &[shape, commands, path] => (shape, commands, path, "", "0"),
-        &[shape, commands, path, kind, count] => (shape, commands, path, kind, count),
-        _ => return Err("usage: generate small|large COMMANDS FILE [KIND COUNT]".into()),
-    };
-    let shape = match shape {
-        "small" => Shape::SMALL,
-        "large" => Shape::LARGE,
-        _ => return Err(format!("no shape {shape}; there are: small, large").into()),
-    };
-    let (commands, count) = (commands.parse()?, count.parse()?);
-    write_day(&mut Day::new(shape, commands), commands, kind, count, path)
 }
 
 fn main() -> ExitCode {
