@@ -132,7 +132,7 @@ impl<R: Row + Ordered> Rows<'_, R> {
         }
     }
 
-    // The place is between `low` and `high`.
+    // The place is `low` or up to `size` further. A step is chosen and not jumped to, since no processor could foretell which.
     #[tactic(auto, using(crate::proofs::Halves::place_within))]
     fn place_by_halves(&self, row: R, terms: Terms) -> usize
         requires order { RisingBy (R.precedes terms) (rows_seen self.now) }
@@ -140,16 +140,21 @@ impl<R: Row + Ordered> Rows<'_, R> {
         ensures before { result ≡ prefix_len (λ x. R.precedes terms x row) (rows_seen self.now) }
     {
         let mut low = 0;
-        let mut high = self.len;
-        while low < high {
-            let mid = low + (high - low) / 2;
-            if self.is_before(mid, row, terms) {
-                low = mid + 1;
+        let mut size = self.len;
+        while 1 < size {
+            let half = size / 2;
+            low += if self.is_before(low + half, row, terms) {
+                half
             } else {
-                high = mid;
-            }
+                0
+            };
+            size -= half;
         }
-        low
+        if size == 1 && self.is_before(low, row, terms) {
+            low + 1
+        } else {
+            low
+        }
     }
 
     // Whether row `at` comes before this one, which in order says on which side of it the place is.
