@@ -18,6 +18,7 @@ use command::{Command, Refusal, TIME_LIMIT, check_terms};
 use live::open::open_count;
 use rows::limits::over;
 use rows::row::Row;
+use rows::search::Search;
 use rows::table::Rows;
 use seen::contains;
 use visit::Clock;
@@ -121,7 +122,7 @@ impl View<'_> {
                 if reading.too_late(self.clock) {
                     return Err(Refusal::TooLate(reading.time));
                 }
-                if contains(self.readings, reading, self.clock.terms) {
+                if contains(self.readings, reading, self.clock.terms, Search::FromFront) {
                     return Err(Refusal::Duplicate(reading.time));
                 }
             }

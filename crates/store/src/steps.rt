@@ -20,6 +20,7 @@ use ledger::posting::post;
 use live::merging::{place, set_aside};
 use rows::out::ChangedRows;
 use rows::row::Row;
+use rows::search::Search;
 use rows::table::Table;
 use visit::{Clock, Line, Reading, Visit};
 
@@ -50,7 +51,7 @@ fn draft_reading(
     let placed = set_aside(visits, reading.single(), clock.terms);
     let changed = by_reading(visits.rows(), placed, clock, out);
     place(visits, placed);
-    seen::insert(readings, reading, clock.terms);
+    seen::insert(readings, reading, clock.terms, Search::FromFront);
     changed
 }
 
@@ -98,7 +99,7 @@ pub fn finish(
     ensures readings { Becomes readings.old readings.new readings.old.len (kept_only clock.terms clock.watermark (rows_of readings.old)) }
     ensures lines { Becomes lines.old lines.new (max lines.old.len lines.new.len) (posted clock.terms (rows_seen changed.entry.retracted) (rows_seen changed.entry.added) (rows_of lines.old)) }
 {
-    post(lines, changed, clock.terms);
+    post(lines, changed, clock.terms, Search::FromFront);
     live::expiry::expire(visits, clock);
     seen::expire(readings, clock);
     let header = Header {
