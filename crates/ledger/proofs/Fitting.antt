@@ -1,14 +1,14 @@
 -- Sums that fit in 64 bits stay so as lines are put to a ledger and taken from it.
-use Rattle.std.proofs.Common.{◌≡◌, ℕ, ◌+◌, ◌≤◌, true, false, cond, eqb, List, [], ◌∷◌, length, arith}
-use Rattle.std.specs.List.{AllByRecursion}
+use Rattle.std.proofs.Common.{◌≡◌, ℕ, ◌+◌, ◌≤◌, List, [], ◌∷◌, length, arith}
 use Rattle.std.proofs.ByRecursion.{All-weaker}
 use Rattle.std.proofs.lemmas.List.Sums.{sum_by-cons}
 use Rattle.visit.specs.declared.Line.{Line}
 use Rattle.visit.specs.declared.Terms.{Terms}
 use Rattle.visit.specs.declared.Visit.{Visit}
-use Rattle.visit.specs.Lines.{line_before, line_minus, line_of, line_plus, same_key}
+use Rattle.visit.specs.Lines.{line_of}
 use Rattle.model.specs.Ledger.{add_line, take_line, take_visits}
 use Rattle.visit.specs.Sums.{sums}
+use Rattle.model.proofs.Rising.{add_all, take_all}
 use Rattle.ledger.specs.Fits.{Fits, FitsIn}
 
 -- What fits leaves room for less.
@@ -21,17 +21,6 @@ fits_less k s j r ls h o f =
     }
 
 -- A line put to the ledger uses up its own share of what fits.
-add_all : (P Q : Line → Type 0) (t : Terms) (l : Line) → ((x : Line) → P x → Q x) → ((x : Line) → P x → Q (line_plus x l)) → Q l → (xs : List Line) → AllByRecursion P xs → AllByRecursion Q (add_line t l xs)
-add_all P Q t l stay plus own [] a = (own, tt)
-add_all P Q t l stay plus own (x ∷ xs) a =
-    elim (line_before t x l) as (λ b. AllByRecursion Q (cond b (x ∷ add_line t l xs) (cond (same_key t x l) (line_plus x l ∷ xs) (l ∷ x ∷ xs)))) [
-      | true ↦ (stay x a.0, add_all P Q t l stay plus own xs a.1)
-      | false ↦ elim (same_key t x l) as (λ b. AllByRecursion Q (cond b (line_plus x l ∷ xs) (l ∷ x ∷ xs))) [
-        | true ↦ (plus x a.0, All-weaker P Q stay xs a.1)
-        | false ↦ (own, (stay x a.0, All-weaker P Q stay xs a.1))
-      ]
-    ]
-
 pub fits_added : (t : Terms) (l : Line) (k s : ℕ) (ls : List Line) → Fits (l.visits + k) (l.sum + s) ls → Fits k s (add_line t l ls)
 fits_added t l k s ls f =
     record {
@@ -53,17 +42,6 @@ module _ (t : Terms) (v : Visit) (vs : List Visit) (ls : List Line) (f : Fits (l
       (fits_less _ _ _ _ ls (omega arith) (omega (arith, sum_by-cons (λ (u : Visit). u.sum) v vs)) f)
 
 -- A line taken from the ledger leaves lines that are no larger.
-take_all : (P : Line → Type 0) (t : Terms) (l : Line) → ((x : Line) → P x → P (line_minus x l)) → (xs : List Line) → AllByRecursion P xs → AllByRecursion P (take_line t l xs)
-take_all P t l minus [] a = tt
-take_all P t l minus (x ∷ xs) a =
-    elim (same_key t x l) as (λ b. AllByRecursion P (cond b (cond (eqb x.visits l.visits) xs (line_minus x l ∷ xs)) (x ∷ take_line t l xs))) [
-      | true ↦ elim (eqb x.visits l.visits) as (λ b. AllByRecursion P (cond b xs (line_minus x l ∷ xs))) [
-        | true ↦ a.1
-        | false ↦ (minus x a.0, a.1)
-      ]
-      | false ↦ (a.0, take_all P t l minus xs a.1)
-    ]
-
 pub fits_taken : (t : Terms) (l : Line) (k s : ℕ) (ls : List Line) → Fits k s ls → Fits k s (take_line t l ls)
 fits_taken t l k s ls f =
     record {

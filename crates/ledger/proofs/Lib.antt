@@ -1,5 +1,5 @@
-pub mod Places
 pub mod Entries
 pub mod Fitting
 pub mod Visits
 pub mod Limits
+pub mod Found

@@ -1,19 +1,23 @@
 // Lines and visits taken from the ledger.
+ghost use Rattle.std.specs.Prelude.{◌≡◌};
+ghost use Rattle.ledger.specs.Keys.{first_of_key};
+ghost use Rattle.rows.specs.Search.{Allows};
 ghost use Rattle.rows.specs.Tables.{Becomes, rows_of, rows_seen};
 ghost use Rattle.model.specs.Ledger.{take_line, take_visits};
+ghost use Rattle.visit.specs.Lines.{line_before};
+ghost use Rattle.visit.specs.Order.{RisingBy};
 
+use rows::search::Search;
 use rows::table::{Rows, Table};
 use visit::{Line, Terms, Visit};
 
 // Takes the line from the first of its key, if there is one.
-pub fn take(table: &mut Table<'_, Line>, line: Line, terms: Terms)
+#[tactic(auto, using(crate::proofs::Entries::row_within))]
+pub fn take(table: &mut Table<'_, Line>, line: Line, terms: Terms, search: Search)
+    requires order { Allows search (RisingBy (line_before terms) (rows_of table.old)) }
     ensures after { Becomes table.old table.new table.old.len (take_line terms line (rows_of table.old)) }
 {
-    let Some(at) = table
-        .rows()
-        .iter()
-        .position(|row| row.same_key(line, terms))
-    else {
+    let Some(at) = find(table.rows(), line, terms, search) else {
         return;
     };
     let found = table.row(at);
@@ -24,11 +28,35 @@ pub fn take(table: &mut Table<'_, Line>, line: Line, terms: Terms)
     }
 }
 
+// The place of the first line of the key, if there is one.
+#[tactic(auto, using(crate::proofs::Found::found_there))]
+fn find(rows: Rows<'_, Line>, line: Line, terms: Terms, search: Search) -> Option<usize>
+    requires order { Allows search (RisingBy (line_before terms) (rows_seen rows)) }
+    ensures { result ≡ first_of_key terms line (rows_seen rows.entry) }
+{
+    match search {
+        Search::FromFront => rows.iter().position(|row| row.same_key(line, terms)),
+        Search::ByHalves => {
+            let at = rows.place(line, terms, search);
+            match rows.get(at) {
+                Some(found) if found.same_key(line, terms) => Some(at),
+                _ => None,
+            }
+        }
+    }
+}
+
 // Takes visits from the ledger, one after the other. Apart from `add_visits`, since adding asks for room and taking does not.
-pub fn take_visits(table: &mut Table<'_, Line>, visits: Rows<'_, Visit>, terms: Terms)
+pub fn take_visits(
+    table: &mut Table<'_, Line>,
+    visits: Rows<'_, Visit>,
+    terms: Terms,
+    search: Search,
+)
+    requires order { Allows search (RisingBy (line_before terms) (rows_of table.old)) }
     ensures after { Becomes table.old table.new table.old.len (take_visits terms (rows_seen visits.entry) (rows_of table.old)) }
 {
     for visit in visits {
-        take(table, visit.line(terms), terms);
+        take(table, visit.line(terms), terms, search);
     }
 }

@@ -1,6 +1,7 @@
 // Changes brought to small ledgers, so that a slip in a definition shows too. A day has 10 seconds.
 use crate::posting::post;
 use rows::out::ChangedRows;
+use rows::search::Search;
 use rows::table::Table;
 use visit::Terms;
 
@@ -130,7 +131,7 @@ fn post_within(cells: &mut [u64], n: usize, out: &[u64]) -> Option<usize> {
     let None = changed.added.first_over() else {
         return None;
     };
-    post(&mut table, changed, terms);
+    post(&mut table, changed, terms, Search::FromFront);
     Some(table.len)
 }
 

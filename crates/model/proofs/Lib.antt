@@ -9,6 +9,7 @@ pub mod Adding
 pub mod Partition
 pub mod Expiry
 pub mod Totals
+pub mod Rising
 pub mod Lines
 pub mod Mirror
 pub mod Kept

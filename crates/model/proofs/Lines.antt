@@ -8,35 +8,27 @@ use Rattle.visit.specs.declared.Line.{Line}
 use Rattle.visit.specs.declared.Terms.{Terms}
 use Rattle.visit.specs.declared.Visit.{Visit}
 use Rattle.visit.specs.Lines.{line_before, line_of, line_plus, same_key}
+use Rattle.visit.specs.Order.{RisingBy}
 use Rattle.model.specs.Ledger.{add_line, add_visits, totals}
 use Rattle.model.specs.Unseen.{Lined, TotalsRight, entry, lines_for, visits_for}
-use Rattle.model.proofs.Common.{kept_none, split}
-use Rattle.model.proofs.Totals.{key_after, key_through, line_parts, one_visit, plus_before}
+use Rattle.model.proofs.Common.{kept_none}
+use Rattle.model.proofs.Rising.{rising_line}
+use Rattle.model.proofs.Totals.{Filled, filled_line, line_parts, one_visit}
 
--- Adding a line keeps a ledger in order.
-before_plus : (t : Terms) (l x a : Line) → line_before t l x ≡ true → line_before t l (line_plus x a) ≡ true
-unfolding line_before
-before_plus t l x a h = h
+-- Lines in order, each with visits.
+lined_parts : (t : Terms) (ls : List Line) → Lined t ls → Filled ls × RisingBy (line_before t) ls
+lined_parts t [] p = (tt, tt)
+lined_parts t (l ∷ ls) p = let ih = lined_parts t ls p.2 in ((p.0, ih.0), (p.1, ih.1))
 
-before_line : (t : Terms) (l a : Line) (xs : List Line) → line_before t l a ≡ true → AllByRecursion (λ x. line_before t l x ≡ true) xs → AllByRecursion (λ x. line_before t l x ≡ true) (add_line t a xs)
-before_line t l a [] h b = (h, tt)
-before_line t l a (x ∷ xs) h b = grind (arith, nat_tests, before_line t l a xs h b.1, before_plus t l x a b.0)
+lined_of : (t : Terms) (ls : List Line) → Filled ls → RisingBy (line_before t) ls → Lined t ls
+lined_of t [] f r = tt
+lined_of t (l ∷ ls) f r = (f.0, r.0, lined_of t ls f.1 r.1)
 
+-- Adding a line keeps a ledger so.
 pub lined_line : (t : Terms) (a : Line) (ls : List Line) → 1 ≤ a.visits → Lined t ls → Lined t (add_line t a ls)
-lined_line t a [] h p = (h, tt, tt)
-lined_line t a (x ∷ xs) h p =
-    let ih = lined_line t a xs h p.2 in
-    split (line_before t x a)
-    (λ o. simp o (p.0, before_line t x a xs o p.1, ih))
-    (λ o. split (same_key t x a)
-    (λ k. simp (o, k) (
-      omega arith,
-      All-weaker (λ y. line_before t x y ≡ true) (λ y. line_before t (line_plus x a) y ≡ true) (λ y q. plus_before t x a y ∙ q) xs p.1,
-      p.2,
-    ))
-    (λ k.
-    let n = key_after t x a o k in
-    simp (o, k) (h, (n, All-weaker (λ y. line_before t x y ≡ true) (λ y. line_before t a y ≡ true) (λ y q. key_through t a x y n q) xs p.1), p)))
+lined_line t a ls h p =
+    let both = lined_parts t ls p in
+    lined_of t (add_line t a ls) (filled_line t a ls h both.0) (rising_line t a ls both.1)
 
 pub lined_visits : (t : Terms) (vs : List Visit) (ls : List Line) → Lined t ls → Lined t (add_visits t vs ls)
 lined_visits t [] ls p = p

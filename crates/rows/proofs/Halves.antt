@@ -6,6 +6,9 @@ use Rattle.std.proofs.lemmas.List.{get_or-drop, length-drop}
 use Rattle.std.proofs.lemmas.List.Sums.{prefix_len-le-length, prefix_len_passes}
 use Rattle.rows.specs.declared.row.Row.{Ghosts}
 use Rattle.rows.specs.declared.table.Rows.{Rows}
+use Rattle.rows.specs.declared.search.Search.{Search}
+use Rattle.rows.specs.declared.search.Search.TheVariants.{ByHalves, FromFront}
+use Rattle.rows.specs.Search.{Allows}
 use Rattle.rows.specs.Tables.{rows_seen}
 use Rattle.rows.proofs.Splits.{length_rows}
 use Rattle.visit.specs.Order.{Chained, RisingBy}
@@ -45,3 +48,8 @@ module _ {X : Type 0} (before : X → X → Bool) (chained : Chained before) (x 
 module _ {R : Type 0} {g : Ghosts R} (t : Rows R g) where
   pub place_within : (p : R → Bool) → prefix_len p (rows_seen t) ≤ t.len
   place_within p = omega (arith, prefix_len-le-length p (rows_seen t), length_rows g.WIDTH g.made t.len t.cells.now)
+
+-- Rows that a change leaves in order may still be searched as before.
+pub allows_kept : {A B : Type 0} (s : Search) → (A → B) → Allows s A → Allows s B
+allows_kept FromFront f a = tt
+allows_kept ByHalves f a = f a

@@ -4,8 +4,7 @@ use Rattle.std.proofs.lemmas.Option.{get_or_from_slice_get, slice_get_within}
 use Rattle.model.specs.Ledger.{add_line}
 use Rattle.rows.specs.Tables.{rows_of, rows_seen}
 use Rattle.rows.proofs.Becoming.{becomes_as, len_inserted, len_put, length_of}
-use Rattle.ledger.proofs.Entries.{add_between, add_last, add_place, add_to}
-use Rattle.ledger.proofs.Places.{none_there}
+use Rattle.ledger.proofs.Entries.{add_between, add_last, add_place, add_to, none_there}
 use Rattle.ledger.proofs.adding.add.Goals as goal
 use Rattle.ledger.proofs.adding.add.Goals.{After-get, in_default-via-in-Some+else-same_key, in_default-via-in_default}
 

@@ -1,10 +1,13 @@
 use Rattle.std.proofs.Common.{◌≡◌, ◌+◌, ◌≤◌, ◌∷◌, length, sym, refl, ap, ◌∙◌, subst, arith}
 use Rattle.visit.specs.declared.Line.{Line}
-use Rattle.visit.specs.Lines.{line_of}
+use Rattle.visit.specs.Lines.{line_before, line_of}
 use Rattle.visit.specs.Sums.{sums}
 use Rattle.model.specs.Ledger.{add_line, add_visits}
 use Rattle.rows.specs.Tables.{rows_left, rows_of}
 use Rattle.rows.proofs.Becoming.{becomes_as, becomes_itself, becomes_len, becomes_long, becomes_then, length_of}
+use Rattle.rows.proofs.Halves.{allows_kept}
+use Rattle.visit.specs.Order.{RisingBy}
+use Rattle.model.proofs.Rising.{rising_line}
 use Rattle.ledger.specs.Fits.{Fits}
 use Rattle.ledger.proofs.Fitting.{fits_first, fits_rest}
 use Rattle.ledger.proofs.Visits.{add_longer}
@@ -15,6 +18,7 @@ loop-visit-init c =
     let t = c.args.table.now in
     let gives = c.into_iter-visit-iterator.ensures.into_iter_gives in
     record {
+      order = c.requires.order;
       more = omega arith;
       room = omega (arith, gives.1, c.requires.room);
       fits = rw (gives.1, gives.0) c.requires.fits;
@@ -32,6 +36,7 @@ add-requires c =
     let fits : Fits (length (c.in-Some.visit ∷ rest)) (sums (c.in-Some.visit ∷ rest)) (rows_of was) =
     subst (λ vs. Fits (length vs) (sums vs) (rows_of was)) c.in-Some.ensures.steps c.loop-visit.invariant.fits in
     record {
+      order = c.loop-visit.invariant.order;
       room = omega (arith, c.loop-visit.invariant.room);
       fits = fits_first c.args.terms c.in-Some.visit rest (rows_of was) fits c.line.result (ap (λ (l : Line). l.visits) c.line.ensures) (ap (λ (l : Line). l.sum) c.line.ensures);
     }
@@ -54,6 +59,7 @@ loop-visit-preserved c =
     let both = becomes_then so.after {n = is.len} put (omega arith) (omega arith) (omega arith) (omega arith) in
     let fits : Fits (length (v ∷ rest)) (sums (v ∷ rest)) ls = subst (λ vs. Fits (length vs) (sums vs) ls) c.in-Some.ensures.steps so.fits in
     record {
+      order = allows_kept c.args.search (λ r. subst (RisingBy (line_before t)) (sym put.rows) (rising_line t c.line.result ls r)) so.order;
       more = omega (arith, so.more);
       room = omega (arith, so.room);
       fits = subst (Fits (length rest) (sums rest)) (sym added) (fits_rest t v rest ls fits);

@@ -1,7 +1,10 @@
 use Rattle.std.proofs.Common.{◌≡◌, ◌+◌, ◌*◌, ◌≤◌, length}
+use Rattle.visit.specs.Lines.{line_before}
+use Rattle.visit.specs.Order.{RisingBy}
 use Rattle.visit.specs.Sums.{sums}
 use Rattle.model.specs.Ledger.{add_visits}
 use Rattle.rows.specs.Lines.{line_width}
+use Rattle.rows.specs.Search.{Allows}
 use Rattle.rows.specs.Tables.{Becomes, rows_left, rows_of, rows_seen}
 use Rattle.ledger.specs.Fits.{Fits}
 use Rattle.ledger.proofs.adding.add_visits.Given as goal
@@ -10,6 +13,7 @@ use Rattle.ledger.proofs.adding.add_visits.Given as goal
 abbrev pub invariant-loop-visit : goal.invariant-loop-visit
 invariant-loop-visit l =
     record {
+      order : Allows l.search (RisingBy (line_before l.terms) (rows_of l.table));
       more : l.initial.table.len ≤ l.table.len;
       room : (l.table.len + length (rows_left l.visit-iterator)) * line_width ≤ length l.initial.table.cells.now;
       fits : Fits (length (rows_left l.visit-iterator)) (sums (rows_left l.visit-iterator)) (rows_of l.table);

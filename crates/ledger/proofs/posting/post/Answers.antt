@@ -1,8 +1,12 @@
-use Rattle.std.proofs.Common.{◌≤◌, max, ap, refl, arith}
+use Rattle.std.proofs.Common.{◌≤◌, max, sym, ap, refl, subst, arith}
 use Rattle.model.specs.Ledger.{add_visits}
 use Rattle.rows.specs.Tables.{rows_of, rows_seen}
 use Rattle.rows.proofs.Becoming.{becomes_as, becomes_len, becomes_long, becomes_then, length_of}
 use Rattle.visit.specs.Sums.{sums}
+use Rattle.rows.proofs.Halves.{allows_kept}
+use Rattle.visit.specs.Lines.{line_before}
+use Rattle.visit.specs.Order.{RisingBy}
+use Rattle.model.proofs.Rising.{rising_visits_taken}
 use Rattle.ledger.proofs.Fitting.{fits_visits_taken}
 use Rattle.ledger.proofs.Visits.{visits_shorter}
 use Rattle.ledger.proofs.posting.post.Goals as goal
@@ -17,6 +21,7 @@ add_visits-requires c =
     let taken = c.take_visits.ensures.after in
     let fewer : rest.len ≤ first.len = omega (arith, becomes_len taken, length_of first, visits_shorter t gone (rows_of first)) in
     record {
+      order = allows_kept c.args.search (λ r. subst (RisingBy (line_before t)) (sym taken.rows) (rising_visits_taken t gone (rows_of first) r)) c.requires.order;
       room = omega (arith, c.requires.room, becomes_long taken fewer first.fits);
       fits = rw taken.rows (fits_visits_taken t gone c.args.changed.added.len (sums new) (rows_of first) c.requires.fits);
     }
