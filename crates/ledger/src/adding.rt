@@ -1,5 +1,6 @@
 // Lines and visits put to the ledger.
 ghost use Rattle.std.specs.Prelude.{max};
+ghost use Rattle.visit.specs.Lines.{line_of};
 ghost use Rattle.visit.specs.Sums.{sums};
 ghost use Rattle.ledger.specs.Fits.{Fits};
 ghost use Rattle.rows.specs.Tables.{Becomes, HasRoom, rows_of, rows_seen};
@@ -22,13 +23,24 @@ pub fn add(table: &mut Table<'_, Line>, line: Line, terms: Terms)
     }
 }
 
+// Puts a visit to the ledger, as the line that it makes alone.
+#[tactic(auto, unfolding(visit::specs::Lines::line_of))]
+fn add_visit(table: &mut Table<'_, Line>, visit: Visit, terms: Terms)
+    requires room { HasRoom table.old 1 }
+    requires fits { Fits 1 visit.sum (rows_of table.old) }
+    ensures after { Becomes table.old table.new (max table.old.len table.new.len) (add_line terms (line_of terms visit) (rows_of table.old)) }
+{
+    add(table, visit.line(terms), terms);
+}
+
 // Puts visits to the ledger, one after the other.
+#[tactic(auto, using(rows::proofs::Becoming::becomes_itself))]
 pub fn add_visits(table: &mut Table<'_, Line>, visits: Rows<'_, Visit>, terms: Terms)
     requires room { HasRoom table.old visits.len }
     requires fits { Fits visits.len (sums (rows_seen visits)) (rows_of table.old) }
     ensures after { Becomes table.old table.new (max table.old.len table.new.len) (add_visits terms (rows_seen visits.entry) (rows_of table.old)) }
 {
     for visit in visits {
-        add(table, visit.line(terms), terms);
+        add_visit(table, visit, terms);
     }
 }
