@@ -1,9 +1,25 @@
 // Lines and visits taken from the ledger.
+ghost use Rattle.std.specs.Prelude.{◌<◌};
+ghost use Rattle.ledger.specs.Taken.{taken_at};
 ghost use Rattle.rows.specs.Tables.{Becomes, rows_of, rows_seen};
 ghost use Rattle.model.specs.Ledger.{take_line, take_visits};
 
 use rows::table::{Rows, Table};
 use visit::{Line, Terms, Visit};
+
+// Takes the line from the one at this place, which goes if that was all of its visits.
+#[tactic(auto, using(rows::proofs::Becoming::length_of, crate::proofs::Entries::taken_gone, crate::proofs::Entries::taken_less))]
+fn take_at(table: &mut Table<'_, Line>, at: usize, line: Line)
+    requires { at < table.old.len }
+    ensures after { Becomes table.old table.new table.old.len (taken_at line at (rows_of table.old)) }
+{
+    let found = table.row(at);
+    if found.visits == line.visits {
+        table.remove(at);
+    } else {
+        table.put(at, found.minus(line));
+    }
+}
 
 // Takes the line from the first of its key, if there is one.
 pub fn take(table: &mut Table<'_, Line>, line: Line, terms: Terms)
@@ -16,12 +32,7 @@ pub fn take(table: &mut Table<'_, Line>, line: Line, terms: Terms)
     else {
         return;
     };
-    let found = table.row(at);
-    if found.visits == line.visits {
-        table.remove(at);
-    } else {
-        table.put(at, found.minus(line));
-    }
+    take_at(table, at, line);
 }
 
 // Takes visits from the ledger, one after the other. Apart from `add_visits`, since adding asks for room and taking does not.
