@@ -10,7 +10,7 @@ use Rattle.rows.specs.Rows.{cells_of}
 use Rattle.rows.specs.Visits.{visit_cells, visit_laws, visit_width}
 use Rattle.rows.proofs.Copying.{length_cells, write_next}
 use Rattle.rows.specs.Out.{out_head}
-use Rattle.changes.specs.Out.{change_row, overlay, with_added}
+use Rattle.changes.specs.Out.{PutInFront, change_row, overlay, with_added}
 use Rattle.changes.proofs.Counts.{length_change_row}
 
 -- All of a row behind place a, lent and written.
@@ -23,12 +23,12 @@ drop_lent a xs zs h =
 abbrev pub Standing : List Visit → List ℕ → List ℕ → Type 0
 Standing rs xs ys = drop out_head ys ≡ cells_of visit_cells rs ++ drop (length rs * visit_width) (drop out_head xs)
 
-pub standing_lent : (rs : List Visit) (xs zs : List ℕ) (r : ℕ) → out_head ≤ length xs → r ≡ length rs
-    → zs ≡ cells_of visit_cells rs ++ drop (r * visit_width) (take (length xs - out_head) (drop out_head xs)) → Standing rs xs (put_mid out_head (length xs - out_head) xs zs)
-standing_lent rs xs zs r h many stored =
+pub standing_lent : (rs : List Visit) (xs zs : List ℕ) (r : ℕ) → out_head ≤ length xs → PutInFront rs r (take (length xs - out_head) (drop out_head xs)) zs
+    → Standing rs xs (put_mid out_head (length xs - out_head) xs zs)
+standing_lent rs xs zs r h put =
     let lent = drop_lent out_head xs zs h in
     let all = take_rest xs out_head in
-    cc (lent, stored, all, many)
+    cc (lent, all)
 
 standing_more : (rs ss : List Visit) (xs ys zs : List ℕ) (k l : ℕ) → Standing rs xs ys → k ≡ length rs → l ≡ length ss
     → drop out_head zs ≡ take (k * visit_width) (drop out_head ys) ++ (cells_of visit_cells ss ++ drop ((k + l) * visit_width) (drop out_head ys))
@@ -57,14 +57,14 @@ listed true z = refl
 listed false z = refl
 
 -- The two steps of a reading: those retracted are written to the lent part, and behind them z if it is added, with the counts.
-pub reading_written : (gone : List Visit) (z : Visit) (wanted : Bool) (o : Option Visit) (xs zs us : List ℕ) (k : ℕ) → out_head ≤ length xs → k ≡ length gone
-    → zs ≡ cells_of visit_cells gone ++ drop (k * visit_width) (take (length xs - out_head) (drop out_head xs)) → o ≡ then_some wanted z
+pub reading_written : (gone : List Visit) (z : Visit) (wanted : Bool) (o : Option Visit) (xs zs us : List ℕ) (k : ℕ) → out_head ≤ length xs
+    → PutInFront gone k (take (length xs - out_head) (drop out_head xs)) zs → o ≡ then_some wanted z
     → us ≡ with_added k (option_to_list o) (put_mid out_head (length xs - out_head) xs zs) → us ≡ overlay (change_row gone (cond wanted (z ∷ []) [])) xs
-reading_written gone z wanted o xs zs us k h many stored is written =
+reading_written gone z wanted o xs zs us k h put is written =
     let new = option_to_list o in
     let ys = put_mid out_head (length xs - out_head) xs zs in
     let behind = ap (drop out_head) written in
-    counted gone new xs us us k (length new) (standing_more gone new xs ys us k (length new) (standing_lent gone xs zs k h many stored) many refl behind) many refl
+    counted gone new xs us us k (length new) (standing_more gone new xs ys us k (length new) (standing_lent gone xs zs k h put) put.many refl behind) put.many refl
     (written ∙ ap (λ l. k ∷ length new ∷ l) (sym behind))
     ∙ ap (λ l. overlay (change_row gone l) xs) (ap option_to_list is ∙ listed wanted z)
 

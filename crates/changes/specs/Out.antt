@@ -31,6 +31,11 @@ pub record OutAfter (o : Outcome) (count : ℕ) (old new : List ℕ) : Type 0 wh
 abbrev pub OutHolds : ℕ → List ℕ → Type 0
 OutHolds n out = out_head + n * visit_width ≤ length out
 
+-- Visits written to the front of a part of `out`, and how many they are.
+pub record PutInFront (vs : List Visit) (count : ℕ) (old new : List ℕ) : Type 0 where
+  pub many : count ≡ length vs
+  pub cells : new ≡ cells_of visit_cells vs ++ drop (count * visit_width) old
+
 -- `out` with its counts, where k visits retracted stand in it and the ones added are put behind them.
 abbrev pub with_added : ℕ → List Visit → List ℕ → List ℕ
 with_added k new out =

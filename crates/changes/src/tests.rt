@@ -40,11 +40,15 @@ enum By {
     Reading(usize, (u64, u64, u64, u64, u64), u64),
 }
 
-const OUT: usize = 24;
+// Room for the counts and four visits.
+const OUT: usize = 22;
 
 const OLD: [u64; OUT] = [77; OUT];
 
-const CASES: [(&str, &[u64], By, &[u64]); 18] = [
+// The largest sum that a visit may have.
+const LARGEST: u64 = (1 << 52) - 1;
+
+const CASES: [(&str, &[u64], By, &[u64]); 19] = [
     (
         "a watermark over no visits",
         &[],
@@ -74,6 +78,12 @@ const CASES: [(&str, &[u64], By, &[u64]); 18] = [
         &[1, 5, 12, 2, 5],
         By::Watermark(23, 23),
         &[0, 0],
+    ),
+    (
+        "the largest sum is written as it is",
+        &[1, 5, 12, 2, LARGEST],
+        By::Watermark(22, 23),
+        &[0, 1, 1, 5, 12, 2, LARGEST],
     ),
     (
         "not in order, two equal, each is added",
@@ -118,7 +128,7 @@ const CASES: [(&str, &[u64], By, &[u64]); 18] = [
         &[1, 0, 1, 5, 20, 3, 6],
     ),
     (
-        "three near, all closed",
+        "three near, all closed, so that `out` is full",
         &[1, 5, 12, 2, 5, 1, 6, 14, 1, 7, 1, 20, 22, 1, 1],
         By::Reading(0, (1, 5, 22, 5, 13), 40),
         &[

@@ -13,6 +13,9 @@ use rows::search::Search;
 use rows::table::{Rows, Table};
 use visit::{Clock, Reading, Terms};
 
+#[cfg(test)]
+mod tests;
+
 // Drops the readings that would be too late. The cells that they leave are 0.
 pub fn expire(table: &mut Table<'_, Reading>, clock: Clock)
     ensures after { Becomes table.old table.new table.old.len (kept_only clock.terms clock.watermark (rows_of table.old)) }

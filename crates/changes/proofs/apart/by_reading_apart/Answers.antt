@@ -14,5 +14,5 @@ returns c =
     record {
       many = search rules;
       out = reading_written (closed_visits t m c.args.near.now) z (closed t m z) c.then_some-added.result c.args.out.now put.new.target c.put_added.new.out put.result
-          (omega arith) (search rules) (search rules) (c.then_some-added.ensures ∙ ap (λ b. then_some b z) c.closed.ensures) c.put_added.ensures.out;
+          (omega arith) (search rules) (c.then_some-added.ensures ∙ ap (λ b. then_some b z) c.closed.ensures) c.put_added.ensures.out;
     }

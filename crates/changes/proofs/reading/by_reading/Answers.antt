@@ -11,9 +11,9 @@ returns c =
     let t = c.args.clock.terms in
     let m = c.args.clock.watermark in
     let z = c.args.placed.visit in
-    let put = c.put_rows-retracted in
+    let put = c.put_retracted-retracted in
     record {
       many = search rules;
       out = reading_written (retracted_rows t m c.args.placed rows) z (closed_besides t m rows z) c.then_some-added.result c.args.out.now put.new.target c.put_added.new.out put.result
-          (omega arith) (search rules) (search rules) (c.then_some-added.ensures ∙ ap (λ b. then_some b z) c.closed_besides.ensures) c.put_added.ensures.out;
+          (omega arith) put.ensures.put (c.then_some-added.ensures ∙ ap (λ b. then_some b z) c.closed_besides.ensures) c.put_added.ensures.out;
     }

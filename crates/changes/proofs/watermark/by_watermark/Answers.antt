@@ -1,8 +1,6 @@
-use Rattle.std.proofs.Common.{rules, ◌≡◌, ◌-◌, ◌*◌, [], ◌++◌, length, take, drop, filter, sym, refl, ap, ◌∙◌, zero-add, arith}
+use Rattle.std.proofs.Common.{◌-◌, [], length, filter, sym, refl, ap, ◌∙◌, zero-add, arith}
 use borrow.Rule.Slice.PartMut.{put_mid}
-use Rattle.rows.specs.Rows.{cells_of}
 use Rattle.rows.specs.Tables.{rows_seen}
-use Rattle.rows.specs.Visits.{visit_cells, visit_width}
 use Rattle.rows.specs.Out.{out_head}
 use Rattle.changes.specs.Changed.{newly_closed}
 use Rattle.changes.specs.Out.{outcome_count, outcome_row, overlay}
@@ -16,12 +14,10 @@ returns c =
     let vs = rows_seen c.args.rows in
     let new = filter (newly_closed c.args.clock.terms c.args.clock.watermark c.args.to) vs in
     let law = sym (only_newly_closed c.args.clock.terms c.args.clock.watermark c.args.to vs c.requires.order) in
-    let put = c.put_rows-added in
-    let many : put.result ≡ length new = search rules in
-    let stored : put.new.target ≡ cells_of visit_cells new ++ drop (put.result * visit_width) (take (length xs - out_head) (drop out_head xs)) = search rules in
-    let standing = standing_lent new xs put.new.target put.result (omega arith) many stored in
+    let put = c.put_closing-added in
+    let standing = standing_lent new xs put.new.target put.result (omega arith) put.ensures in
     record {
-      many = many ∙ sym (zero-add (length new)) ∙ ap outcome_count law;
-      out = counted [] new xs (put_mid out_head (length xs - out_head) xs put.new.target) c.put_counts.new.out 0 put.result standing refl many c.put_counts.ensures
+      many = put.ensures.many ∙ sym (zero-add (length new)) ∙ ap outcome_count law;
+      out = counted [] new xs (put_mid out_head (length xs - out_head) xs put.new.target) c.put_counts.new.out 0 put.result standing refl put.ensures.many c.put_counts.ensures
           ∙ ap (λ o. overlay (outcome_row o) xs) law;
     }
