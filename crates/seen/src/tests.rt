@@ -1,5 +1,6 @@
 // Readings looked up, put in and dropped in small tables. A reading is card, time, serial, amount; one at 5 is kept at 35 and gone at 36.
 use crate::{contains, expire, insert};
+use rows::search::Search;
 use rows::table::Table;
 use std::process::Abort;
 use visit::{Clock, Terms};
@@ -149,11 +150,14 @@ fn done(rt: &impl Abort, cells: &mut [u64; 12], n: usize, case: Case) -> usize {
     let mut table = Table::new(cells, n);
     match case {
         Case::Contains(reading, there) => {
-            assert_eq!(rt; contains(table.rows(), reading.into(), TERMS), there);
+            assert_eq!(rt;
+                contains(table.rows(), reading.into(), TERMS, Search::FromFront),
+                there
+            );
         }
         Case::Insert(reading) => {
             assert!(rt; n < 3);
-            insert(&mut table, reading.into(), TERMS);
+            insert(&mut table, reading.into(), TERMS, Search::FromFront);
         }
         Case::Expire(watermark) => expire(
             &mut table,
