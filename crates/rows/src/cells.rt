@@ -10,23 +10,21 @@ pub(crate) fn clear(table: &mut [u64], from: usize, to: usize)
     table[from..to].fill(0);
 }
 
-// The cells that they left hold what stood behind them. By a rotation, which is one move of memory: `copy_within` is a loop.
-#[tactic(auto, using(crate::proofs::Moved::moved_up))]
+// The cells that those left behind are as they were.
 pub(crate) fn open(table: &mut [u64], at: usize, end: usize, w: usize)
     requires order { at ≤ end }
     requires within { end + w ≤ length table.old }
     ensures { table.new ≡ opened at end w table.old }
 {
-    table[at..end + w].rotate_right(w);
+    table.copy_within(at..end, at + w);
 }
 
 // What the last cells left is cleared.
-#[tactic(auto, using(crate::proofs::Moved::closed))]
 pub(crate) fn close(table: &mut [u64], at: usize, end: usize, w: usize)
     requires order { at + w ≤ end }
     requires within { end ≤ length table.old }
     ensures { table.new ≡ closed_up at end w table.old }
 {
-    table[at..end].rotate_left(w);
+    table.copy_within(at + w..end, at);
     clear(table, end - w, end);
 }
