@@ -1,5 +1,5 @@
 -- Visits gathered among others that are in order and apart, and what merging them changes.
-use Rattle.std.proofs.Common.{◌≡◌, ℕ, ◌+◌, ◌≤◌, List, length, sym, ap, refl, ◌∙◌, arith}
+use Rattle.std.proofs.Common.{◌≡◌, ◌≤◌, List, length, sym, ap, refl, ◌∙◌, arith}
 use Rattle.visit.specs.declared.Clock.{Clock}
 use Rattle.visit.specs.declared.Reading.{Reading}
 use Rattle.visit.specs.declared.Visit.{Visit}

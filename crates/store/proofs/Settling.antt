@@ -1,8 +1,7 @@
 -- What is known of a store in order, at each step of a command.
-use Rattle.std.proofs.Common.{◌≡◌, ℕ, false, List, sym, ap, ◌∙◌, subst, arith}
+use Rattle.std.proofs.Common.{◌≡◌, ℕ, false, List, sym, ap, ◌∙◌, arith}
 use Rattle.visit.specs.declared.Clock.{Clock}
 use Rattle.visit.specs.declared.Reading.{Reading}
-use Rattle.visit.specs.declared.Terms.{Terms}
 use Rattle.visit.specs.declared.Visit.{Visit}
 use Rattle.visit.specs.Order.{RisingBy}
 use Rattle.visit.specs.Readings.{reading_before, too_late}
@@ -18,9 +17,9 @@ use Rattle.rows.specs.Search.{Allows}
 use Rattle.rows.specs.Tables.{rows_seen}
 use Rattle.store.specs.declared.header.Header.{Header}
 use Rattle.store.specs.declared.view.View.{View}
-use Rattle.store.specs.Contents.{header_in, store_in, terms_in}
+use Rattle.store.specs.Contents.{store_in, terms_in}
 use Rattle.store.specs.Order.{Orderly, Settled}
-use Rattle.store.specs.Views.{Shows, header_seen, store_seen}
+use Rattle.store.specs.Views.{Shows}
 use Rattle.store.proofs.Views.{store_shown}
 
 -- What is asked of rows that are searched, from what is known of more.

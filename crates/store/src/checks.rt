@@ -110,7 +110,10 @@ impl View<'_> {
                 }
             }
             Command::Watermark(_) => {
-                if self.lines.len + open_count(self.visits, self.clock) > LINES_ROOM {
+                // The open visits are counted only where all the visits might be too many.
+                if self.lines.len + self.visits.len > LINES_ROOM
+                    && self.lines.len + open_count(self.visits, self.clock) > LINES_ROOM
+                {
                     return Err(Refusal::Full(6));
                 }
             }
