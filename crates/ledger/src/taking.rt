@@ -5,7 +5,7 @@ ghost use Rattle.ledger.specs.Taken.{taken_at};
 ghost use Rattle.rows.specs.Search.{Allows};
 ghost use Rattle.rows.specs.Tables.{Becomes, rows_of, rows_seen};
 ghost use Rattle.model.specs.Ledger.{take_line, take_visits};
-ghost use Rattle.visit.specs.Lines.{line_before};
+ghost use Rattle.visit.specs.Lines.{line_before, line_of};
 ghost use Rattle.visit.specs.Order.{RisingBy};
 
 use rows::search::Search;
@@ -56,7 +56,16 @@ fn find(rows: Rows<'_, Line>, line: Line, terms: Terms, search: Search) -> Optio
     }
 }
 
+// Takes a visit from the ledger, as the line that it makes alone.
+fn take_visit(table: &mut Table<'_, Line>, visit: Visit, terms: Terms, search: Search)
+    requires order { Allows search (RisingBy (line_before terms) (rows_of table.old)) }
+    ensures after { Becomes table.old table.new table.old.len (take_line terms (line_of terms visit) (rows_of table.old)) }
+{
+    take(table, visit.line(terms), terms, search);
+}
+
 // Takes visits from the ledger, one after the other. Apart from `add_visits`, since adding asks for room and taking does not.
+#[tactic(auto, using(rows::proofs::Becoming::becomes_itself))]
 pub fn take_visits(
     table: &mut Table<'_, Line>,
     visits: Rows<'_, Visit>,
@@ -67,6 +76,6 @@ pub fn take_visits(
     ensures after { Becomes table.old table.new table.old.len (take_visits terms (rows_seen visits.entry) (rows_of table.old)) }
 {
     for visit in visits {
-        take(table, visit.line(terms), terms, search);
+        take_visit(table, visit, terms, search);
     }
 }
