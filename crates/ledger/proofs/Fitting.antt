@@ -1,5 +1,5 @@
 -- Sums that fit in 64 bits stay so as lines are put to a ledger and taken from it.
-use Rattle.std.proofs.Common.{◌≡◌, ℕ, ◌+◌, ◌≤◌, List, [], ◌∷◌, length, arith}
+use Rattle.std.proofs.Common.{ℕ, ◌+◌, ◌≤◌, List, [], ◌∷◌, length, arith}
 use Rattle.std.proofs.ByRecursion.{All-weaker}
 use Rattle.std.proofs.lemmas.List.Sums.{sum_by-cons}
 use Rattle.visit.specs.declared.Line.{Line}
@@ -30,10 +30,10 @@ fits_added t l k s ls f =
           (λ x p. (omega (arith, p.0), omega (arith, p.1))) (λ x p. (omega (arith, p.0), omega (arith, p.1))) (f.visits, f.sum) ls f.lines;
     }
 
--- Where visits fit, so does a line of the first one, and behind it the others.
+-- Where visits fit, so does the first one, and behind it the others.
 module _ (t : Terms) (v : Visit) (vs : List Visit) (ls : List Line) (f : Fits (length (v ∷ vs)) (sums (v ∷ vs)) ls) where
-  pub fits_first : (l : Line) → l.visits ≡ 1 → l.sum ≡ v.sum → Fits l.visits l.sum ls
-  fits_first l one same = fits_less _ _ _ _ ls (omega arith) (omega (arith, sum_by-cons (λ (u : Visit). u.sum) v vs)) f
+  pub fits_first : Fits 1 v.sum ls
+  fits_first = fits_less _ _ _ _ ls (omega arith) (omega (arith, sum_by-cons (λ (u : Visit). u.sum) v vs)) f
 
   pub fits_rest : Fits (length vs) (sums vs) (add_line t (line_of t v) ls)
   unfolding line_of

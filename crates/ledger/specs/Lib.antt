@@ -1,2 +1,3 @@
 pub mod Fits
 pub mod Keys
+pub mod Taken

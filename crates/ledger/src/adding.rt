@@ -1,6 +1,6 @@
 // Lines and visits put to the ledger.
 ghost use Rattle.std.specs.Prelude.{max};
-ghost use Rattle.visit.specs.Lines.{line_before};
+ghost use Rattle.visit.specs.Lines.{line_before, line_of};
 ghost use Rattle.visit.specs.Order.{RisingBy};
 ghost use Rattle.visit.specs.Sums.{sums};
 ghost use Rattle.ledger.specs.Fits.{Fits};
@@ -27,7 +27,19 @@ pub fn add(table: &mut Table<'_, Line>, line: Line, terms: Terms, search: Search
     }
 }
 
+// Puts a visit to the ledger, as the line that it makes alone.
+#[tactic(auto, unfolding(visit::specs::Lines::line_of))]
+fn add_visit(table: &mut Table<'_, Line>, visit: Visit, terms: Terms, search: Search)
+    requires order { Allows search (RisingBy (line_before terms) (rows_of table.old)) }
+    requires room { HasRoom table.old 1 }
+    requires fits { Fits 1 visit.sum (rows_of table.old) }
+    ensures after { Becomes table.old table.new (max table.old.len table.new.len) (add_line terms (line_of terms visit) (rows_of table.old)) }
+{
+    add(table, visit.line(terms), terms, search);
+}
+
 // Puts visits to the ledger, one after the other.
+#[tactic(auto, using(rows::proofs::Becoming::becomes_itself))]
 pub fn add_visits(
     table: &mut Table<'_, Line>,
     visits: Rows<'_, Visit>,
@@ -40,6 +52,6 @@ pub fn add_visits(
     ensures after { Becomes table.old table.new (max table.old.len table.new.len) (add_visits terms (rows_seen visits.entry) (rows_of table.old)) }
 {
     for visit in visits {
-        add(table, visit.line(terms), terms, search);
+        add_visit(table, visit, terms, search);
     }
 }
