@@ -8,6 +8,7 @@ use Rattle.visit.specs.declared.Line.{Line}
 use Rattle.visit.specs.declared.Reading.{Reading}
 use Rattle.visit.specs.declared.Terms.{Terms}
 use Rattle.visit.specs.declared.Visit.{Visit}
+use Rattle.visit.specs.Chains.{line_chained}
 use Rattle.visit.specs.Lines.{line_before, line_of, same_key}
 use Rattle.command.specs.declared.Command.{Command}
 use Rattle.command.specs.declared.Command.TheVariants.{Reading as AReading, Watermark}
@@ -23,7 +24,7 @@ use Rattle.model.proofs.Common.{kept_agree, kept_commute, kept_shorter, some_kep
 use Rattle.model.proofs.Lines.{lined_line}
 use Rattle.model.proofs.Mirror.{image}
 use Rattle.model.proofs.Order.{SortedReadings}
-use Rattle.model.proofs.Totals.{key_after, key_through, one_visit}
+use Rattle.model.proofs.Totals.{key_after, one_visit}
 use Rattle.store.specs.declared.capacity.Capacity.{Capacity}
 use Rattle.store.specs.Contents.{header_of}
 use Rattle.command.specs.Cells.{command_in}
@@ -66,7 +67,7 @@ module _ (t : Terms) (p : ℕ → Bool) where
       (λ q. simp (o, k, q, h))
       (λ q.
       let n = key_after t x a o k in
-      let b : AllByRecursion (λ y. line_before t a y ≡ true) xs = All-weaker (λ y. line_before t x y ≡ true) (λ y. line_before t a y ≡ true) (λ y r. key_through t a x y n r) xs l.1 in
+      let b : AllByRecursion (λ y. line_before t a y ≡ true) xs = All-weaker (λ y. line_before t x y ≡ true) (λ y. line_before t a y ≡ true) (λ y r. line_chained t a x y n r) xs l.1 in
       let f = add_front t a (lines_part p xs) (all_kept_by (λ y. p y.card) (λ y. line_before t a y ≡ true) xs b) in
       simp (o, k, q, h, f))))
 

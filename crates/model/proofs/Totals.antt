@@ -6,6 +6,7 @@ use Rattle.std.proofs.lemmas.Bool.Decides.{nat_tests}
 use Rattle.visit.specs.declared.Line.{Line}
 use Rattle.visit.specs.declared.Terms.{Terms}
 use Rattle.visit.specs.declared.Visit.{Visit}
+use Rattle.visit.specs.Chains.{line_chained}
 use Rattle.visit.specs.Lines.{line_before, line_minus, line_of, line_plus, same_key}
 use Rattle.visit.specs.Visits.{same_visit, visit_before}
 use Rattle.model.specs.Ledger.{add_line, add_visits, take_line, take_visits, totals}
@@ -24,10 +25,6 @@ key_after t a b p q = grind (arith, nat_tests)
 key_past : (t : Terms) (a b : Line) → line_before t a b ≡ true → (line_before t b a ≡ false) × (same_key t b a ≡ false) × (same_key t a b ≡ false)
 unfolding line_before same_key
 key_past t a b p = (grind (arith, nat_tests), grind (arith, nat_tests), grind (arith, nat_tests))
-
-pub key_through : (t : Terms) (a b c : Line) → line_before t a b ≡ true → line_before t b c ≡ true → line_before t a c ≡ true
-unfolding line_before
-key_through t a b c p q = grind (arith, nat_tests)
 
 key_like : (t : Terms) (a b c : Line) → same_key t a b ≡ true → (line_before t a c ≡ line_before t b c) × (line_before t c a ≡ line_before t c b)
 unfolding line_before same_key
@@ -71,7 +68,7 @@ first_swap t a b xs p q = grind (arith, nat_tests, key_past, key_back, plus_roun
 
 pub add_swap : (t : Terms) (a b : Line) (ls : List Line) → add_line t a (add_line t b ls) ≡ add_line t b (add_line t a ls)
 add_swap t a b [] = first_swap t a b [] refl refl
-add_swap t a b (x ∷ xs) = grind (arith, nat_tests, add_swap t a b xs, plus_before t x b a, plus_before t x a b, plus_same t x b a, plus_same t x a b, plus_either x a b, key_after, key_through, key_like, first_swap)
+add_swap t a b (x ∷ xs) = grind (arith, nat_tests, add_swap t a b xs, plus_before t x b a, plus_before t x a b, plus_same t x b a, plus_same t x a b, plus_either x a b, key_after, line_chained, key_like, first_swap)
 
 -- Lines that all have visits.
 abbrev pub Filled : List Line → Type 0
