@@ -1,9 +1,9 @@
 #!/usr/bin/env bash
 # run.sh [--quick]
 #
-# Measures settle and recompute beside the peer on long days and prints a Markdown table; README.md
-# says what its columns mean. Before a day is measured, the programs must print the same bytes for it.
-# --quick leaves out 10^7 commands. Status 1 if texts differ, 2 if something is missing.
+# Measures settle and recompute beside the peer and flat on long days and prints a Markdown table;
+# README.md says what its columns mean. Before a day is measured, the programs must print the same
+# bytes for it. --quick leaves out 10^7 commands. Status 1 if texts differ, 2 if something is missing.
 #
 # The time for a command leaves out the start of the program, taken from runs on a day without
 # commands: on a short day it would count for more than the commands.
@@ -38,14 +38,15 @@ compare() { # DAY PROGRAM
     exit 1
 }
 
+# Beside the programs given, the peer and flat.
 measure() { # SHAPE COMMANDS RUNS NAME=PROGRAM ..
-    local day=$work/$1-$2.day
+    local day=$work/$1-$2.day programs=("flat=$flat" "${@:4}")
     "$work/generate" "$1" "$2" "$day" 2>"$work/tally"
     echo "$1: $(<"$work/tally")" >>"$work/tallies"
-    for program in "${@:4}"; do
+    for program in "${programs[@]}"; do
         compare "$day" "${program#*=}"
     done
-    python3 "$here/measure.py" "$3" "$1" "$2" "$day" "peer=$peer" "${@:4}"
+    python3 "$here/measure.py" "$3" "$1" "$2" "$day" "peer=$peer" "${programs[@]}"
     rm "$day"
 }
 
@@ -66,8 +67,9 @@ done
 
 work=$(mktemp -d)
 trap 'rm -rf "$work"' EXIT
-peer=$work/peer
+peer=$work/peer flat=$work/flat
 rustc -O --edition 2024 -o "$peer" "$top/peer/peer.rs" || missing "the peer cannot be built"
+rustc -O --edition 2024 -o "$flat" "$here/flat.rs" || missing "flat cannot be built"
 rustc -O --edition 2024 -o "$work/generate" "$here/generate.rs" || missing "the generator cannot be built"
 
 echo "| Shape | Commands | Program | Wall ms | CPU ms | ns a command | Wall / peer | CPU / peer | Peak KB |"
