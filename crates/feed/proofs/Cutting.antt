@@ -1,7 +1,8 @@
 -- Bytes that go on: what stands behind a whole command does not change it.
-use Rattle.std.proofs.Common.{◌≡◌, ℕ, ◌+◌, ◌-◌, ◌<◌, ◌≤◌, true, false, List, [], ◌∷◌, ◌++◌, length, take, drop, IfSome, Some, None, Option, ltb, subst, sym, refl, ap, ◌∙◌, arith, length-append, length-drop}
+use Rattle.std.proofs.Common.{◌≡◌, ℕ, ◌+◌, ◌-◌, ◌<◌, ◌≤◌, true, false, List, [], ◌∷◌, ◌++◌, length, take, drop, IfSome, Some, None, Option, ltb, subst, sym, refl, ap, append-nil, ◌∙◌, arith, length-append, length-drop}
 use Rattle.std.proofs.lemmas.Bool.Decides.{nat_tests}
 use Rattle.std.proofs.lemmas.List.{drop-append-le, get_or_append_left, take-append-le}
+use Rattle.visit.specs.declared.Terms.{Terms}
 use Rattle.command.specs.declared.Command.{Command}
 use Rattle.feed.specs.Bytes.{low_first, number_at}
 use Rattle.feed.specs.Commands.{IsFront}
@@ -32,6 +33,15 @@ terms_more bs more h =
     let few : ltb (length bs) 24 ≡ false = grind (arith, nat_tests) in
     let fewer : ltb (length (bs ++ more)) 24 ≡ false = grind (arith, nat_tests, length-append bs more) in
     simp (few, fewer, gap, lateness, day)
+
+-- Terms that are not.
+pub terms_short : (bs : List ℕ) → terms_in bs ≡ None → length bs < 24
+unfolding terms_in
+terms_short bs e = grind (arith, nat_tests)
+
+pub terms_long : (bs : List ℕ) (t : Terms) → terms_in bs ≡ Some t → 24 ≤ length bs
+unfolding terms_in
+terms_long bs t e = grind (arith, nat_tests)
 
 -- A command that is whole.
 decoded_whole : (bs more : List ℕ) → IfSome (decoded bs) (λ d. decoded (bs ++ more) ≡ Some d)
@@ -64,7 +74,14 @@ none_whole bs u =
           absurd (omega (arith, unread_next bs d.0 d.1 e, unread_bound (drop d.1 bs), length-drop d.1 bs))
     ] refl
 
--- Then it is short or of unknown kind, and of unknown kind it stays.
+pub none_commands : (bs : List ℕ) → unread bs ≡ length bs → commands (bs ++ []) ≡ []
+none_commands bs u = ap commands (append-nil bs) ∙ commands_end bs (none_whole bs u)
+
+-- So where nothing is left.
+pub none_left : (bs : List ℕ) → bs ≡ [] → unread bs ≡ length bs
+none_left bs e = omega (arith, unread_bound bs, ap length e)
+
+-- What is not whole is short or of unknown kind, and of unknown kind it stays.
 none_known : (bs : List ℕ) → decoded bs ≡ None → unknown_kind bs ≡ false → length bs < 21
 unfolding decoded
 none_known bs e k = grind (arith, nat_tests)

@@ -21,6 +21,9 @@ const READING: u8 = 0;
 
 const WATERMARK: u8 = 1;
 
+// How many bytes the terms take.
+pub const TERMS_SIZE: usize = 24;
+
 // Two functions: one over the width would copy into eight bytes, and ask that the width is at most that.
 // The number in the first four bytes, and the bytes behind them.
 fn word(bytes: &[u8]) -> Option<(u64, &[u8])>
