@@ -1,2 +1,3 @@
 mod Printing
 mod Comparing
+mod Cutting

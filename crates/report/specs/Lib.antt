@@ -1,3 +1,4 @@
 pub mod Texts
 pub mod SameText
 pub mod Whole
+pub mod Pieces
