@@ -2,3 +2,4 @@ pub mod Texts
 pub mod SameText
 pub mod Whole
 pub mod Pieces
+pub mod Streams

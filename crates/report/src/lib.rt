@@ -5,8 +5,10 @@ pub mod by_store;
 pub mod pieces;
 pub mod same;
 pub mod sessions;
+pub mod streams;
 
 ghost use Rattle.feed.specs.Files.{commands, unread as Unread};
+ghost use Rattle.report.specs.Streams.{OfSource, Streamed};
 ghost use Rattle.report.specs.Texts.{recompute_text};
 ghost use Rattle.report.specs.Whole.{Reported, ReportedBy};
 ghost use Rattle.std.specs.List.{flat_map};
@@ -18,6 +20,8 @@ use pieces::Reporting;
 use reference::Reference;
 use sessions::Sessions;
 use std::alloc::{AllocError, Global};
+use std::io::{Read, Write};
+use streams::{StreamError, stream};
 use visit::Terms;
 
 // The report of commands that come in pieces: however they are cut, it is that of the pieces put together.
@@ -56,4 +60,15 @@ pub fn recompute(heap: Global, file: &[u8]) -> Result<FileText, FileError>
     ensures { Reported recompute_text file.now result }
 {
     report(heap, file, |terms| Ok(Reference::new(heap, terms)))
+}
+
+// The same of a source that is read piece by piece, written as it comes. Says at which byte reading stopped, if it did before the end.
+pub fn recompute_stream<R: Read, W: Write>(
+    heap: Global,
+    source: &mut R,
+    out: &mut W,
+) -> Result<Option<u64>, StreamError>
+    ensures { OfSource (λ file. Streamed recompute_text file (W.contents out.old) (W.contents out.new)) (R.remaining source.old) result }
+{
+    stream(heap, source, out, |terms| Ok(Reference::new(heap, terms)))
 }
