@@ -3,25 +3,31 @@
 
 pub mod flags;
 pub mod options;
+pub mod source;
 
 use anyhow::anyhow;
 use options::Options;
-use std::io::{Read, Write};
+use source::Source;
+use std::io::Write;
 use std::process::ExitCode;
-use std::{env, fmt, fs};
+use std::{env, fmt};
 
 const VERSION: &str = "0.1.0";
 
 const STOPPED: &str = "the command ends early or is of unknown kind";
 
-// A program: its name, what --help prints, and what it does with a file, once its options are known.
+// A program: its name, what --help prints, and what it does with what it reads, once its options are known.
 pub trait Tool {
     const NAME: &'static str;
 
     const HELP: &'static str;
 
-    // Writes to standard output, and says how many bytes at the end of the file could not be read.
-    fn process(rt: &HostRuntime, options: &Options, file: &[u8]) -> anyhow::Result<usize>;
+    // Writes to standard output, and says at which byte reading stopped, if it did before the end.
+    fn process(
+        rt: &HostRuntime,
+        options: &Options,
+        source: &mut Source,
+    ) -> anyhow::Result<Option<u64>>;
 }
 
 // Why a run fails. The path of a file that cannot be read stands beside the error, which keeps 120 bytes of text at most.
@@ -71,21 +77,28 @@ fn attempt<T: Tool>(rt: &HostRuntime) -> Result<(), Failure> {
         return Ok(());
     }
     // `map_err` would move `options.file` into its closure, and the options are used below.
-    let file = match input(rt, &options.file) {
-        Ok(file) => file,
+    let mut source = match Source::open(rt, &options.file) {
+        Ok(source) => source,
         Err(error) => return Err(Failure {
+            path: options.file,
+            error: error.into(),
+        }),
+    };
+    let stopped = match T::process(rt, &options, &mut source) {
+        Ok(stopped) => stopped,
+        Err(error) if source.failed() => return Err(Failure {
             path: options.file,
             error,
         }),
+        Err(error) => return Err(error.into()),
     };
-    let unread = T::process(rt, &options, &file)?;
-    if unread > 0 {
-        let at = file.len().saturating_sub(unread);
-        if options.strict {
-            return Err(anyhow!("stopped at byte {at}: {STOPPED}").into());
-        }
-        eprintln!(rt; "{name}: stopped at byte {at}: {STOPPED}")?;
+    let Some(at) = stopped else {
+        return Ok(());
+    };
+    if options.strict {
+        return Err(anyhow!("stopped at byte {at}: {STOPPED}").into());
     }
+    eprintln!(rt; "{name}: stopped at byte {at}: {STOPPED}")?;
     Ok(())
 }
 
@@ -96,18 +109,6 @@ fn gather(rt: &HostRuntime) -> anyhow::Result<Options> {
         options = options.noted(word)?;
     }
     Ok(options)
-}
-
-// The whole file that is named, or the whole standard input.
-fn input(rt: &HostRuntime, file: &Option<String>) -> anyhow::Result<Vec<u8>> {
-    match file {
-        None => {
-            let mut bytes = Vec::new(rt.alloc());
-            rt.stdin().read_to_end(&mut bytes)?;
-            Ok(bytes)
-        }
-        Some(path) => Ok(fs::read(rt, path.as_str())?),
-    }
 }
 
 // All bytes to standard output, at once.

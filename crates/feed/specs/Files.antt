@@ -1,5 +1,5 @@
 -- Command files: 24 bytes of terms, then commands of 21 or 9 bytes.
-use Rattle.std.specs.Prelude.{◌≡◌, ℕ, zero, suc, ◌+◌, ◌-◌, ◌^◌, ◌<◌, Bool, true, cond, ◌&&◌, List, [], ◌∷◌, ◌++◌, length, take, drop, Some, None, Option, ◌==◌, nat_lt, slice_index}
+use Rattle.std.specs.Prelude.{◌≡◌, ℕ, zero, suc, ◌+◌, ◌-◌, ◌^◌, ◌<◌, Bool, true, false, cond, ◌&&◌, List, [], ◌∷◌, ◌++◌, length, take, drop, Some, None, Option, ◌==◌, nat_lt, slice_index}
 use Rattle.std.specs.Option.{option_map}
 use Rattle.std.specs.List.{flat_map, AllByRecursion}
 use Rattle.visit.specs.declared.Terms.{Terms}
@@ -72,6 +72,11 @@ commands bs = (parsed (length bs) bs).0
 -- How many bytes are left there.
 unfoldable pub unread : List ℕ → ℕ
 unread bs = (parsed (length bs) bs).1
+
+-- The kind at the front is unknown: no command begins there, however the bytes go on.
+abbrev pub unknown_kind : List ℕ → Bool
+unknown_kind [] = false
+unknown_kind (kind ∷ bs) = nat_lt 1 kind
 
 -- Every number of the command fits the bytes it has.
 unfoldable pub storable : Command → Bool

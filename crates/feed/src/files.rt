@@ -5,7 +5,7 @@ ghost use Rattle.std.specs.List.{flat_map};
 ghost use Rattle.std.specs.Option.{option_map};
 ghost use Rattle.feed.specs.Bytes.{PutsWhole, TakesFirst, number_at};
 ghost use Rattle.feed.specs.Commands.{IsFront, StepsOn, bytes_left, commands_left};
-ghost use Rattle.feed.specs.Files.{Lossless, RoundTrip, body, command_bytes, decoded, decoded_at, storable, terms_bytes, terms_in, terms_size};
+ghost use Rattle.feed.specs.Files.{Lossless, RoundTrip, body, command_bytes, decoded, decoded_at, storable, terms_bytes, terms_in, terms_size, unknown_kind};
 ghost use Rattle.feed.specs.Text.{encode_error_text};
 ghost use Rattle.feed.specs.declared.files.EncodeError.TheVariants.{OutOfMemory, TooLarge};
 
@@ -20,6 +20,9 @@ use visit::{Reading, Terms};
 const READING: u8 = 0;
 
 const WATERMARK: u8 = 1;
+
+// How many bytes the terms take.
+pub const TERMS_SIZE: usize = 24;
 
 // Two functions: one over the width would copy into eight bytes, and ask that the width is at most that.
 // The number in the first four bytes, and the bytes behind them.
@@ -94,6 +97,13 @@ fn front(bytes: &[u8]) -> Option<(Command, &[u8])>
         }
         _ => None,
     }
+}
+
+// Whether no command begins at the front, however the bytes go on.
+pub fn unknown_kind(bytes: &[u8]) -> bool
+    ensures { result ≡ unknown_kind bytes.now }
+{
+    !matches!(bytes, [] | [READING | WATERMARK, ..])
 }
 
 // The command that begins at a byte, and where the next begins. None where `front` finds none.

@@ -1,5 +1,5 @@
 -- A store in a row and the reference print the same of the commands that are not withheld.
-use Rattle.std.proofs.Common.{◌≡◌, ℕ, ◌≤◌, min, Bool, true, false, cond, List, [], ◌∷◌, ◌++◌, length, drop, replicate, Ok, Err, Result, sym, refl, ap, ◌∙◌, subst, arith}
+use Rattle.std.proofs.Common.{◌≡◌, ℕ, ◌≤◌, min, Bool, true, false, cond, List, [], ◌∷◌, ◌++◌, length, drop, replicate, IfSome, OnOk, None, Some, Option, Ok, Err, Result, sym, refl, ap, ◌∙◌, subst, arith}
 use Rattle.std.specs.List.{flat_map, AllByRecursion}
 use Rattle.std.proofs.lemmas.List.{append_assoc, length-replicate}
 use Rattle.std.proofs.lemmas.Bool.{le-ltb}
@@ -34,6 +34,9 @@ use Rattle.feed.specs.Text.{ledger_text, outcome_text}
 use Rattle.report.specs.SameText.{Begins, SameBeginning, SameText, SameTextHeard, first_heard, store_heard, store_outcomes, store_prints_heard, withheld_outcome}
 use Rattle.report.specs.Texts.{reference_prints, settle_text, store_prints}
 use Rattle.report.specs.Whole.{AsRecomputed, Reported}
+use Rattle.std.specs.Io.KnownBytes.{Appends}
+use Rattle.report.specs.Streams.{OfSource, Streamed, StreamedAsRecomputed}
+use Rattle.report.specs.declared.streams.StreamError.{StreamError}
 use Rattle.feed.specs.declared.whole.FileError.{FileError}
 use Rattle.feed.specs.declared.whole.FileText.{FileText}
 use Rattle.report.proofs.Printing.{prints_more}
@@ -222,3 +225,11 @@ as_recomputed cap file (Err e) h = tt
 as_recomputed cap file (Ok r) h = λ t is none.
     let same : h.0 ≡ t = cc (h.1, is) in
     h.2 ∙ ap (λ (u : Terms). settle_text cap u (commands (body file))) same ∙ same_text cap t (commands (body file)) none
+
+pub streamed_as_recomputed : (cap : Capacity) (source out last : Option (List ℕ)) (r : Result (Option ℕ) StreamError)
+    → OfSource (λ file. Streamed (settle_text cap) file out last) source r → IfSome source (λ file. OnOk r (StreamedAsRecomputed cap file out last))
+streamed_as_recomputed cap None out last r h = tt
+streamed_as_recomputed cap (Some file) out last (Err e) h = tt
+streamed_as_recomputed cap (Some file) out last (Ok at) h = λ t is none.
+    let same : h.0 ≡ t = cc (h.1, is) in
+    subst (Appends out last) (ap (λ (u : Terms). settle_text cap u (commands (body file))) same ∙ same_text cap t (commands (body file)) none) h.2

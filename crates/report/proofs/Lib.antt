@@ -1,2 +1,4 @@
 mod Printing
 mod Comparing
+mod Cutting
+mod Sources

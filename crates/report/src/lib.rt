@@ -2,58 +2,44 @@
 #![tactic(auto)]
 
 pub mod by_store;
+pub mod pieces;
 pub mod same;
 pub mod sessions;
+pub mod streams;
 
 ghost use Rattle.feed.specs.Files.{commands, unread as Unread};
+ghost use Rattle.report.specs.Streams.{OfSource, Streamed};
 ghost use Rattle.report.specs.Texts.{recompute_text};
 ghost use Rattle.report.specs.Whole.{Reported, ReportedBy};
-ghost use Rattle.std.specs.Prelude.{◌≡◌, List, ◌∷◌, ◌++◌, IfOk, Ok, string_bytes, OnOk};
-ghost use Rattle.command.specs.declared.Command.{Command};
+ghost use Rattle.std.specs.List.{flat_map};
+ghost use Rattle.std.specs.Prelude.{◌≡◌, IfOk, Ok, string_bytes};
 
-use command::Command;
-use feed::files::{Commands, read_terms};
-use feed::text::{put_answer, put_ledger};
+use feed::files::read_terms;
 pub use feed::whole::{FileError, FileText};
+use pieces::Reporting;
 use reference::Reference;
 use sessions::Sessions;
 use std::alloc::{AllocError, Global};
+use std::io::{Read, Write};
+use streams::{StreamError, stream};
 use visit::Terms;
 
-// Does one command, and puts the text of its answer behind the text.
-fn apply_one<S: Sessions>(
+// The report of commands that come in pieces: however they are cut, it is that of the pieces put together.
+pub fn in_pieces<S: Sessions + Drop>(
     heap: Global,
-    sessions: &mut S,
-    text: &mut String,
-    command: Command,
-) -> Result<(), AllocError>
-    ensures { OnOk result ((cs : List Command) → string_bytes text.new ++ S.prints sessions.new cs ≡ string_bytes text.old ++ S.prints sessions.old (command ∷ cs)) }
-{
-    let answer = sessions.apply(heap, command)?;
-    put_answer(text, &answer)
-}
-
-// Does the commands behind a file's terms, one after the other.
-pub fn run<S: Sessions + Drop>(
-    heap: Global,
-    mut sessions: S,
-    bytes: &[u8],
+    sessions: S,
+    pieces: &[&[u8]],
 ) -> Result<FileText, AllocError>
-    ensures text { IfOk result (λ p. string_bytes p.text ≡ S.prints sessions (commands bytes.now)) }
-    ensures rest { IfOk result (λ p. p.unread ≡ Unread bytes.now) }
+    ensures text { IfOk result (λ p. string_bytes p.text ≡ S.prints sessions (commands (flat_map (λ piece. piece.now) pieces.now))) }
+    ensures rest { IfOk result (λ p. p.unread ≡ Unread (flat_map (λ piece. piece.now) pieces.now)) }
 {
     let mut text = String::new(heap);
-    let mut commands = Commands::new(bytes);
-    // Nothing is known of an iterator that a `for` has borrowed, and what is left is asked for.
-    while let Some(command) = commands.next() {
-        apply_one(heap, &mut sessions, &mut text, command)?;
+    let mut reporting = Reporting::new(heap, sessions);
+    for piece in pieces {
+        reporting.take(heap, piece, &mut text)?;
     }
-    let lines = sessions.ledger(heap)?;
-    put_ledger(&mut text, &lines)?;
-    Ok(FileText {
-        text,
-        unread: commands.unread(),
-    })
+    let unread = reporting.end(heap, &mut text)?;
+    Ok(FileText { text, unread })
 }
 
 // The report of a whole file by what is made of its terms.
@@ -66,7 +52,7 @@ fn report<S: Sessions + Drop, F: FnOnce(Terms) -> Result<S, AllocError>>(
     ensures { ReportedBy (λ t s. F.post start t (Ok s)) S.prints file.now result }
 {
     let (terms, rest) = read_terms(file).ok_or(FileError::TooShort)?;
-    Ok(run(heap, start(terms)?, rest)?)
+    Ok(in_pieces(heap, start(terms)?, &[rest])?)
 }
 
 // The report of a whole file by the reference.
@@ -74,4 +60,15 @@ pub fn recompute(heap: Global, file: &[u8]) -> Result<FileText, FileError>
     ensures { Reported recompute_text file.now result }
 {
     report(heap, file, |terms| Ok(Reference::new(heap, terms)))
+}
+
+// The same of a source that is read piece by piece, written as it comes. Says at which byte reading stopped, if it did before the end.
+pub fn recompute_stream<R: Read, W: Write>(
+    heap: Global,
+    source: &mut R,
+    out: &mut W,
+) -> Result<Option<u64>, StreamError>
+    ensures { OfSource (λ file. Streamed recompute_text file (W.contents out.old) (W.contents out.new)) (R.remaining source.old) result }
+{
+    stream(heap, source, out, |terms| Ok(Reference::new(heap, terms)))
 }

@@ -4,7 +4,7 @@ use Rattle.std.proofs.lemmas.Result.{IfOk-weaker}
 use Rattle.command.specs.declared.Command.{Command}
 use Rattle.command.specs.Outcomes.{outcome_of}
 use Rattle.feed.specs.Text.{outcome_text}
-use Rattle.report.proofs.apply_one.Goals as goal
+use Rattle.report.proofs.pieces.apply_one.Goals as goal
 
 pub returns : goal.returns
 returns g c =
