@@ -14,7 +14,7 @@ use Rattle.model.proofs.Partition.{visits_right}
 use Rattle.model.proofs.Runs.{after_append}
 use Rattle.store.specs.Contents.{empty_row}
 use Rattle.command.specs.Cells.{command_in}
-use Rattle.guarantees.specs.AnyTime.{RowVisitsRight, reference_now}
+use Rattle.guarantees.specs.AnyTime.{reference_now}
 use Rattle.guarantees.specs.Calls.{Call, answer}
 use Rattle.guarantees.specs.Faithful.{call_faults, next, planned, reference_left, withheld}
 use Rattle.guarantees.proofs.Refusing.{OpenRefusal, call_only, first_none, sound_row, which_comes}
@@ -51,6 +51,6 @@ pub reached_now : (t : Terms) (xs : List ℕ) (calls : List Call) → Reached t 
 reached_now t xs calls = reference_keeps t (Reached t) (λ k c _ r. reached_step t k c r) empty (empty_row t xs) calls ([], refl)
 
 -- So the reference's visits are right.
-pub row_visits_right : RowVisitsRight
-row_visits_right t xs calls =
+pub visits_right_now : (t : Terms) (xs : List ℕ) (calls : List Call) → Right t (reference_now t xs calls).readings (visits t (reference_now t xs calls).readings)
+visits_right_now t xs calls =
     let r = reached_now t xs calls in subst (λ (k : Reference). Right t k.readings (visits t k.readings)) (sym r.1) (visits_right t r.0)

@@ -16,6 +16,7 @@ pub mod Moments
 pub mod Judging
 pub mod Runs
 pub mod Follow
+pub mod Taking
 pub mod Meeting
 pub mod Withholding
 pub mod Parting

@@ -9,8 +9,6 @@ use Rattle.command.specs.Numbers.{reply_number}
 use Rattle.model.specs.Kept.{Holds}
 use Rattle.model.specs.Order.{SameTaken}
 use Rattle.model.specs.Reference.{Reference, empty, ledger_of}
-use Rattle.model.specs.Right.{Right}
-use Rattle.model.specs.Sessions.{visits}
 use Rattle.rows.specs.Limits.{count_limit, sum_limit}
 use Rattle.store.specs.Contents.{empty_row, header_in, store_in}
 use Rattle.command.specs.Cells.{command_in}
@@ -38,12 +36,6 @@ pub record StandsFor (t : Terms) (k : Reference) (rest xs : List ℕ) : Type 0 w
 
 abbrev pub RowStands : Type 0
 RowStands = (t : Terms) (xs : List ℕ) (calls : List Call) → StandsFor t (reference_now t xs calls) (drop store_size xs) (row_now t xs calls)
-
--- The reference's visits, of which the row has the live ones, are right: each reading taken in is of just one, they are unbroken and apart, and have
--- the count and the sum of their readings.
-abbrev pub RowVisitsRight : Type 0
-RowVisitsRight =
-    (t : Terms) (xs : List ℕ) (calls : List Call) → Right t (reference_now t xs calls).readings (visits t (reference_now t xs calls).readings)
 
 -- The same readings taken in and the same watermark: the same row, number for number, in whatever order and by whatever calls.
 abbrev pub AnyOrderSameRow : Type 0

@@ -5,6 +5,7 @@ pub mod AnyTime
 pub mod Refusals
 pub mod Unhindered
 pub mod Following
+pub mod Taken
 pub mod Few
 pub mod Cards
 pub mod Needed

@@ -1,13 +1,14 @@
 // What calls leave in the row.
-ghost use Rattle.guarantees.specs.AnyTime.{AnyOrderSameRow, RowStands, RowVisitsRight};
+ghost use Rattle.guarantees.specs.AnyTime.{AnyOrderSameRow, RowStands};
 ghost use Rattle.guarantees.specs.Needed.{RowNothingInVain};
+ghost use Rattle.guarantees.specs.Taken.{RowVisitsRight};
 
 // The row holds what stands for the reference, and behind it only 0.
 pub fn row_stands()
     ensures { RowStands }
 {}
 
-// The visits that it stands for are what their readings make.
+// What it holds and what was written are the visits that the readings of the calls that were done make.
 pub fn visits_right()
     ensures { RowVisitsRight }
 {}

@@ -1,4 +1,4 @@
-use Rattle.guarantees.proofs.Keeping.{row_visits_right}
+use Rattle.guarantees.proofs.Taking.{row_visits_right}
 use Rattle.guarantees.proofs.contents.visits_right.Goals as goal
 
 pub returns : goal.returns
