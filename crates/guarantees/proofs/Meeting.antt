@@ -15,12 +15,10 @@ use Rattle.model.proofs.Changes.{few_changes, on_time, only_what_is_met}
 use Rattle.changes.specs.Changed.{newly_closed}
 use Rattle.changes.specs.Out.{change_row, overlay}
 use Rattle.changes.proofs.Differences.{only_newly_closed}
-use Rattle.rows.specs.Out.{gone_count, new_in}
 use Rattle.store.specs.Applied.{Applied, applied_by}
 use Rattle.store.specs.Contents.{store_in, terms_in}
 use Rattle.command.specs.Cells.{command_in}
 use Rattle.store.specs.Layout.{store_size}
-use Rattle.store.proofs.Ending.{gone_written, new_written}
 use Rattle.guarantees.specs.AnyTime.{reference_now, row_now}
 use Rattle.guarantees.specs.Calls.{Call, answer}
 use Rattle.guarantees.specs.Faithful.{RightAnswer, call_faults, out_after, planned, withheld}
@@ -83,9 +81,10 @@ NoneOnTime t k = (e : Reading) (gone new : List Visit) → k.watermark ≤ e.tim
 none_on_time : (t : Terms) (k : Reference) → Reached t k → NoneOnTime t k
 none_on_time t k r = grind (arith, on_time t r.0)
 
-few_by : (t : Terms) (k : Reference) (e : Reading) (gone new : List Visit) (front out : List ℕ) → out ≡ overlay (change_row gone new) front
-    → ((gone ≡ closed_visits t k.watermark (met t k e)) × (new ≡ closed_visits t k.watermark (became t k e ∷ []))) × ((length gone ≤ 2) × (length new ≤ 1)) → FewWritten t k e out
-few_by t k e gone new front out w m = grind (arith, gone_written gone new front, new_written gone new front)
+few_by : (t : Terms) (k : Reference) (e : Reading) (gone new : List Visit) (before after : List ℕ) → after ≡ overlay (change_row gone new) before
+    → ((gone ≡ closed_visits t k.watermark (met t k e)) × (new ≡ closed_visits t k.watermark (became t k e ∷ []))) × ((length gone ≤ 2) × (length new ≤ 1))
+    → FewWritten t k e before after
+few_by t k e gone new before after w m = grind arith
 
 pub row_few_changes : RowFewChanges
 row_few_changes t xs before c e n q done =
@@ -106,14 +105,14 @@ row_on_time t xs before c e n q h done =
     )
 
 -- A watermark, on any row.
-abbrev Adds : Terms → Store → ℕ → List ℕ → Type 0
-Adds t s m out = (gone_count out ≡ 0) × (new_in out ≡ filter (newly_closed t s.watermark m) s.live)
+abbrev Adds : Terms → Store → ℕ → (before after : List ℕ) → Type 0
+Adds t s m before after = after ≡ out_after (changed [] (filter (newly_closed t s.watermark m) s.live)) before
 
 adds_by : (xs out : List ℕ) (m n : ℕ) → (applied_by xs out (draft (terms_in xs) (store_in xs) (Watermark m))).reply ≡ Ok n
-    → Adds (terms_in xs) (store_in xs) m (applied_by xs out (draft (terms_in xs) (store_in xs) (Watermark m))).out
-adds_by xs out m n e = grind (arith, only_newly_closed, ltb-false, new_written)
+    → Adds (terms_in xs) (store_in xs) m out (applied_by xs out (draft (terms_in xs) (store_in xs) (Watermark m))).out
+adds_by xs out m n e = grind (arith, only_newly_closed, ltb-false)
 
 pub row_watermark_adds : RowWatermarkAdds
 row_watermark_adds xs c m n q done =
     let same = judged_drafts xs c (ap judged done) ∙ ap (λ (d : Command). applied_by xs c.out (draft (terms_in xs) (store_in xs) d)) q in
-    subst (λ (a : Applied). Adds (terms_in xs) (store_in xs) m a.out) (sym same) (adds_by xs c.out m n (sym (ap (λ (a : Applied). a.reply) same) ∙ done))
+    subst (λ (a : Applied). Adds (terms_in xs) (store_in xs) m c.out a.out) (sym same) (adds_by xs c.out m n (sym (ap (λ (a : Applied). a.reply) same) ∙ done))
