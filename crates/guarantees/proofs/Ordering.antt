@@ -1,5 +1,5 @@
 -- A store that stands for a reference is in order, and nothing in it has expired.
-use Rattle.std.proofs.Common.{◌≡◌, true, List, [], ◌∷◌, arith}
+use Rattle.std.proofs.Common.{List, [], ◌∷◌, arith}
 use Rattle.visit.specs.declared.Line.{Line}
 use Rattle.visit.specs.declared.Terms.{Terms}
 use Rattle.visit.specs.Lines.{line_before}
