@@ -5,7 +5,8 @@
 //!     flat FILE
 //!
 //! Nothing is proved, and nothing is checked but what the days of `generate.rs` have: it has no
-//! capacity limits and refuses with 4, 5 and 6 only. So terms and times must be within bounds.
+//! capacity limits and refuses with 4, 5 and 6 only. So terms and times must be within bounds. It
+//! reads files by itself, as the peer does: each is one file that stands alone.
 
 use std::io::{self, Write};
 use std::ops::Range;

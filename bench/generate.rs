@@ -12,74 +12,18 @@
 //! day length grows with COMMANDS, so that there are as many days, and lines of the ledger, in each.
 //! A command costs the logarithm of what a store holds, and goes to the file at once.
 
+#[path = "../peer/chance.rs"]
+mod chance;
+#[path = "../peer/commands.rs"]
+mod commands;
+
+use chance::Chance;
+use commands::{Command, Reading, write_command};
 use std::cmp::Reverse;
 use std::collections::{BTreeMap, BTreeSet, BinaryHeap, HashSet, VecDeque};
 use std::fs::File;
-use std::io::{self, BufWriter, Write};
+use std::io::{BufWriter, Write};
 use std::{env, error::Error, process::ExitCode};
-
-// ---- Chance -----------------------------------------------------------------------------------
-
-/// SplitMix64 (Steele, Lea, Flood 2014).
-struct Chance(u64);
-
-impl Chance {
-    fn next(&mut self) -> u64 {
-        self.0 = self.0.wrapping_add(0x9e37_79b9_7f4a_7c15);
-        let mut z = self.0;
-        z = (z ^ (z >> 30)).wrapping_mul(0xbf58_476d_1ce4_e5b9);
-        z = (z ^ (z >> 27)).wrapping_mul(0x94d0_49bb_1331_11eb);
-        z ^ (z >> 31)
-    }
-
-    /// A number from 0 to n - 1; n is not 0. The bias of the remainder does not matter here.
-    fn below(&mut self, n: u64) -> u64 {
-        self.next() % n
-    }
-
-    fn between(&mut self, low: u64, high: u64) -> u64 {
-        low + self.below(high - low + 1)
-    }
-
-    fn percent(&mut self, share: u64) -> bool {
-        self.below(100) < share
-    }
-
-    fn index(&mut self, length: usize) -> usize {
-        self.below(length as u64) as usize
-    }
-}
-
-// ---- Commands ---------------------------------------------------------------------------------
-
-#[derive(Clone, Copy, PartialEq, Eq, PartialOrd, Ord)]
-struct Reading {
-    card: u32,
-    time: u64,
-    serial: u32,
-    amount: u32,
-}
-
-enum Command {
-    Reading(Reading),
-    Watermark(u64),
-}
-
-fn write_command(command: &Command, file: &mut impl Write) -> io::Result<()> {
-    match command {
-        Command::Reading(reading) => {
-            file.write_all(&[0])?;
-            file.write_all(&reading.card.to_le_bytes())?;
-            file.write_all(&reading.serial.to_le_bytes())?;
-            file.write_all(&reading.time.to_le_bytes())?;
-            file.write_all(&reading.amount.to_le_bytes())
-        }
-        Command::Watermark(watermark) => {
-            file.write_all(&[1])?;
-            file.write_all(&watermark.to_le_bytes())
-        }
-    }
-}
 
 // ---- Shapes -----------------------------------------------------------------------------------
 

@@ -11,41 +11,22 @@
 //! No day asks for more than 64 live visits, 256 kept readings or 4,096 lines (see `Bound`), so
 //! that a store of these capacities refuses nothing with 7.
 
+mod chance;
+mod commands;
+
+use chance::Chance;
+use commands::{Command, Reading, write_command};
 use std::collections::{BTreeSet, HashSet};
 use std::ops::Bound::{Excluded, Unbounded};
 use std::{env, error::Error, fs, path::Path, process::ExitCode};
 
 const TIME_BOUND: u64 = 1 << 40;
 
-// ---- Chance -----------------------------------------------------------------------------------
-
-/// SplitMix64 (Steele, Lea, Flood 2014).
-struct Chance(u64);
+// ---- Choices ----------------------------------------------------------------------------------
 
 impl Chance {
-    fn next(&mut self) -> u64 {
-        self.0 = self.0.wrapping_add(0x9e37_79b9_7f4a_7c15);
-        let mut z = self.0;
-        z = (z ^ (z >> 30)).wrapping_mul(0xbf58_476d_1ce4_e5b9);
-        z = (z ^ (z >> 27)).wrapping_mul(0x94d0_49bb_1331_11eb);
-        z ^ (z >> 31)
-    }
-
-    /// A number from 0 to n - 1; n is not 0. The bias of the remainder does not matter here.
-    fn below(&mut self, n: u64) -> u64 {
-        self.next() % n
-    }
-
-    fn between(&mut self, low: u64, high: u64) -> u64 {
-        low + self.below(high - low + 1)
-    }
-
-    fn percent(&mut self, share: u64) -> bool {
-        self.below(100) < share
-    }
-
     fn pick<T: Copy>(&mut self, choices: &[T]) -> T {
-        choices[self.below(choices.len() as u64) as usize]
+        choices[self.index(choices.len())]
     }
 
     /// The number itself or one beside it: edges are where mistakes are.
@@ -54,37 +35,6 @@ impl Chance {
             0 => n.saturating_sub(1),
             1 => n.saturating_add(1),
             _ => n,
-        }
-    }
-}
-
-// ---- Commands ---------------------------------------------------------------------------------
-
-#[derive(Clone, Copy)]
-struct Reading {
-    card: u32,
-    time: u64,
-    serial: u32,
-    amount: u32,
-}
-
-enum Command {
-    Reading(Reading),
-    Watermark(u64),
-}
-
-fn write_command(command: &Command, file: &mut Vec<u8>) {
-    match command {
-        Command::Reading(reading) => {
-            file.push(0);
-            file.extend(reading.card.to_le_bytes());
-            file.extend(reading.serial.to_le_bytes());
-            file.extend(reading.time.to_le_bytes());
-            file.extend(reading.amount.to_le_bytes());
-        }
-        Command::Watermark(watermark) => {
-            file.push(1);
-            file.extend(watermark.to_le_bytes());
         }
     }
 }
@@ -467,7 +417,7 @@ fn day(shape: Shape, chance: &mut Chance) -> Vec<u8> {
     let mut day = Day { chance, shape, bound, now, last: None, burst: 0 };
     for _ in 0..commands {
         let command = day.command();
-        write_command(&command, &mut file);
+        write_command(&command, &mut file).expect("a Vec takes all");
     }
     file
 }
@@ -506,7 +456,7 @@ fn cut_last_command(file: &mut Vec<u8>, chance: &mut Chance) {
         true => Command::Watermark(time),
         false => Command::Reading(Reading { card: 1, time, serial: 0, amount: 1 }),
     };
-    write_command(&command, &mut last);
+    write_command(&command, &mut last).expect("a Vec takes all");
     last.truncate(chance.between(1, last.len() as u64 - 1) as usize);
     file.extend(last);
 }
