@@ -12,9 +12,9 @@ use Rattle.model.proofs.Expiry.{insert_kept, live_merge, timely_live, timely_rea
 use Rattle.live.specs.Apart.{Apart}
 use Rattle.live.proofs.Together.{apart_model}
 use Rattle.rows.specs.declared.search.Search.{Search}
-use Rattle.rows.specs.declared.search.Search.TheVariants.{ByHalves, FromFront}
 use Rattle.rows.specs.Search.{Allows}
 use Rattle.rows.specs.Tables.{rows_seen}
+use Rattle.rows.proofs.Halves.{allows_kept}
 use Rattle.store.specs.declared.header.Header.{Header}
 use Rattle.store.specs.declared.view.View.{View}
 use Rattle.store.specs.Contents.{store_in, terms_in}
@@ -22,16 +22,11 @@ use Rattle.store.specs.Order.{Orderly, Settled}
 use Rattle.store.specs.Views.{Shows}
 use Rattle.store.proofs.Views.{store_shown}
 
--- What is asked of rows that are searched, from what is known of more.
-pub allows_part : {A B : Type 0} (s : Search) → (A → B) → Allows s A → Allows s B
-allows_part FromFront f a = tt
-allows_part ByHalves f a = f a
-
 pub readings_in_order : (s : Search) (xs : List ℕ) (v : View) → Shows v xs → Allows s (Orderly (terms_in xs) (store_in xs)) → Allows s (RisingBy (reading_before v.clock.terms) (rows_seen v.readings))
 readings_in_order s xs v shows o =
     let terms : v.clock.terms ≡ terms_in xs = ap (λ (h : Header). h.clock.terms) shows.header in
     let seen : rows_seen v.readings ≡ (store_in xs).seen = ap (λ (s : Store). s.seen) (store_shown shows) in
-    rw (terms, seen) (allows_part s (λ (d : Orderly (terms_in xs) (store_in xs)). d.current.readings) o)
+    rw (terms, seen) (allows_kept s (λ (d : Orderly (terms_in xs) (store_in xs)). d.current.readings) o)
 
 -- Where nothing has expired, a reading that is not too late leaves it so.
 pub taken_settled : (k : Clock) (e : Reading) (vs : List Visit) (es : List Reading) → too_late k.terms k.watermark e ≡ false

@@ -13,7 +13,7 @@ use Rattle.store.specs.Order.{Orderly}
 use Rattle.store.specs.Parts.{parts_from}
 use Rattle.store.specs.Steps.{before, changes_of, draft_of, gone_of, new_of}
 use Rattle.store.proofs.Ending.{clock_after, filtered, gone_read, held_in, new_read, parts_are, row_within, stands}
-use Rattle.store.proofs.Settling.{allows_part}
+use Rattle.rows.proofs.Halves.{allows_kept}
 use Rattle.store.proofs.Views.{rows_at}
 use Rattle.store.proofs.applying.perform.Goals as goal
 
@@ -23,7 +23,7 @@ draft-drafted-requires-clause-order c =
     let k = q.header.clock in
     let p = parts_from c.args.head.now c.args.visits.now c.args.readings.now c.args.lines.now in
     let is = stands k c.new-visits.result c.new-readings.result q.header.visits q.header.readings p.visits p.readings c.new-visits.ensures.cells c.new-visits.ensures.len c.new-readings.ensures.cells c.new-readings.ensures.len in
-    rw is (allows_part c.args.search (λ (o : Orderly k.terms (store_of q.header p)). o.current) c.requires.order)
+    rw is (allows_kept c.args.search (λ (o : Orderly k.terms (store_of q.header p)). o.current) c.requires.order)
 
 pub read-changed-requires-clause-within : goal.read-changed-requires-clause-within
 read-changed-requires-clause-within c =
@@ -43,7 +43,7 @@ finish-requires-clause-order c =
     let b = before (store_of q.header p) in
     let clock = c.draft-drafted.ensures.clock ∙ clock_after k b q.command refl in
     rw (clock, rows_at c.new-lines.result q.header.lines p.lines c.new-lines.ensures.cells c.new-lines.ensures.len)
-    (allows_part c.args.search (λ (o : Orderly k.terms (store_of q.header p)). o.lines) c.requires.order)
+    (allows_kept c.args.search (λ (o : Orderly k.terms (store_of q.header p)). o.lines) c.requires.order)
 
 pub finish-requires-clause-fits : goal.finish-requires-clause-fits
 finish-requires-clause-fits c =
