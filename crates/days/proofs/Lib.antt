@@ -1,4 +1,5 @@
 mod Digits
+mod FirstWords
 pub mod RoundTrip
 mod Splitting
 mod Steps

@@ -22,10 +22,10 @@ split false f g = g refl
 pub found_or_len : (p : ℕ → Bool) (xs : List ℕ) → unwrap_or (cond (ltb (position_or_len p xs) (length xs)) (Some (position_or_len p xs)) None) (length xs) ≡ position_or_len p xs
 found_or_len p xs = let l = prefix_len-le-length (λ b. not (p b)) xs in grind (arith, nat_tests)
 
-before_stop : (p : ℕ → Bool) (b : ℕ) (bs : List ℕ) → p b ≡ true → before_first p (b ∷ bs) ≡ []
+pub before_stop : (p : ℕ → Bool) (b : ℕ) (bs : List ℕ) → p b ≡ true → before_first p (b ∷ bs) ≡ []
 before_stop p b bs o = take_while-cons (λ c. not (p c)) b bs ∙ simp o
 
-before_on : (p : ℕ → Bool) (b : ℕ) (bs : List ℕ) → p b ≡ false → before_first p (b ∷ bs) ≡ b ∷ before_first p bs
+pub before_on : (p : ℕ → Bool) (b : ℕ) (bs : List ℕ) → p b ≡ false → before_first p (b ∷ bs) ≡ b ∷ before_first p bs
 before_on p b bs o = take_while-cons (λ c. not (p c)) b bs ∙ simp o
 
 -- what stands before the first of two bytes

@@ -28,3 +28,7 @@ words text = filter filled (slice_split blank text)
 -- The words of a line before its comment.
 abbrev pub line_words : List ℕ → List (List ℕ)
 line_words line = words (before_first hash line)
+
+-- No line means anything that has more words than a reading, so one word more is all that is looked at.
+abbrev pub most_words : ℕ
+most_words = 6

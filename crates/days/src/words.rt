@@ -1,12 +1,15 @@
 // A line cut into words, and a word read as a number.
-ghost use Rattle.std.specs.Prelude.{◌≡◌, ◌+◌, IfOk, map};
+ghost use Rattle.std.specs.Prelude.{◌≡◌, ◌+◌, [], ◌∷◌, IfOk, MatchOption, map, take};
 ghost use Rattle.std.specs.List.{before_first};
 ghost use Rattle.days.specs.Numbers.{is_number, number_in};
-ghost use Rattle.days.specs.Words.{blank, hash, line_words, newline};
+ghost use Rattle.days.specs.Words.{blank, hash, line_words, most_words, newline, words};
 
 use super::Reason;
 use std::alloc::{AllocError, Global};
 use std::str;
+
+// A reading has five words, and a sixth is one too many.
+const MOST_WORDS: usize = 6;
 
 // A space, a tab or a carriage return separates words.
 fn is_blank(byte: u8) -> bool
@@ -23,13 +26,31 @@ fn code(line: &[u8]) -> &[u8]
     &line[..end.unwrap_or(line.len())]
 }
 
-pub fn words(heap: Global, line: &[u8]) -> Result<Vec<&[u8]>, AllocError>
-    ensures { IfOk result (λ found. map (λ word. word.now) found.items ≡ line_words (before_first newline line.now)) }
+// The first word, and what stands behind it.
+fn first_word(text: &[u8]) -> Option<(&[u8], &[u8])>
+    ensures { MatchOption result (words text.now ≡ []) (λ p. words text.now ≡ p.0.now ∷ words p.1.now) }
 {
-    code(line)
-        .split(|byte| is_blank(*byte))
-        .filter(|word| !word.is_empty())
-        .collect(heap)
+    let start = text.iter().position(|byte| !is_blank(*byte))?;
+    let text = &text[start..];
+    let end = text.iter().position(|byte| is_blank(*byte));
+    Some(text.split_at(end.unwrap_or(text.len())))
+}
+
+// The first words of a line, one more at most than a command has: that one is too many, whatever follows, and a line may be
+// as long as memory.
+pub fn words(heap: Global, line: &[u8]) -> Result<Vec<&[u8]>, AllocError>
+    ensures { IfOk result (λ found. map (λ word. word.now) found.items ≡ take most_words (line_words (before_first newline line.now))) }
+{
+    let mut found = Vec::new(heap);
+    let mut rest = code(line);
+    for _ in 0..MOST_WORDS {
+        let Some((word, behind)) = first_word(rest) else {
+            break;
+        };
+        found.push(word)?;
+        rest = behind;
+    }
+    Ok(found)
 }
 
 // Digits only, and at least one; a number has no sign.

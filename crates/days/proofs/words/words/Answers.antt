@@ -1,17 +1,11 @@
-use Rattle.std.proofs.Common.{rules, tests}
-use Rattle.std.proofs.lemmas.Iterator.Consumers.{YieldsList-at, YieldsList-from_filter, map_from_collect}
-use Rattle.std.proofs.lemmas.Iterator.Splits.{YieldsList-from_slice_split}
-use Rattle.days.specs.Words.{blank, filled, words}
+use Rattle.std.proofs.Common.{◌≡◌, ◌+◌, ◌-◌, ◌++◌, take, ◌∷◌, map, vec_items, ap, sym, ◌∙◌, arith, rules}
+use Rattle.days.specs.Words.{most_words, words}
+use Rattle.days.proofs.FirstWords.{one_more}
 use Rattle.days.proofs.words.words.Goals as goal
 
-pub returns : goal.returns
-unfolding words
-returns c =
-    let found =
-    map_from_collect _ c.collect.ensures.ran
-    (YieldsList-from_filter _ filled
-    (YieldsList-at c.filter.ensures.source
-    (YieldsList-from_slice_split _ blank c.code.result.now c.split.ensures.rest c.split.ensures.done c.split.ensures.closure (λ x r q k. search (rules, tests))))
-    c.filter.ensures.closure
-    (λ x r q k. search (rules, tests))) in
-    rw c.code.ensures at found
+pub loop-preserved : goal.loop-preserved
+loop-preserved c =
+    let next : words c.loop.rest.now ≡ c.in-Some.word.now ∷ words c.in-Some.behind.now = search rules in
+    ap (λ l. map (λ w. w.now) l ++ take (most_words - (c.loop.counter + 1)) (words c.in-Some.behind.now)) c.in_ok-push.ensures.items
+    ∙ one_more (λ w. w.now) (vec_items c.loop.found) c.in-Some.word c.loop.rest.now c.in-Some.behind.now c.loop.counter (omega (arith, c.loop-test.true)) next
+    ∙ c.loop.invariant
