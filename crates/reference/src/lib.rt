@@ -71,6 +71,8 @@ impl Reference {
         let clock = self.clock;
         let mut visits = visits::visits(heap, clock.terms, &self.readings)?;
         visits.retain(|visit| visit.closed(clock));
+        // Else each list of closed visits would keep the room of all visits.
+        visits.shrink_to_fit();
         Ok(visits)
     }
 

@@ -8,4 +8,5 @@ pub returns : goal.returns
 returns c =
     let clock = c.args.self.now.clock in
     let all = c.in_ok-visits.ensures ∙ ap (visits clock.terms) c.deref.ensures.value in
-    filter_same _ (closed clock.terms clock.watermark) _ (λ x b f' k. search rules) _ _ c.retain.ensures.filtered ∙ ap (filter (closed clock.terms clock.watermark)) all
+    c.shrink_to_fit.ensures.items
+    ∙ filter_same _ (closed clock.terms clock.watermark) _ (λ x b f' k. search rules) _ _ c.retain.ensures.filtered ∙ ap (filter (closed clock.terms clock.watermark)) all
