@@ -2,7 +2,7 @@
 use Rattle.std.specs.Prelude.{◌≡◌, ℕ, true, false, List, Some, None, Ok, Err, codes, Option, Result, String, string_bytes}
 use Rattle.std.specs.declared.alloc.Global.{Global}
 use Rattle.cli.specs.declared.flags.Flag.{Flag}
-use Rattle.cli.specs.declared.flags.Flag.TheVariants.{Help, Version, Strict, Unpack, Full, Name}
+use Rattle.cli.specs.declared.flags.Flag.TheVariants.{Help, Version, Strict, Unpack, Full, Unknown, Name}
 use Rattle.cli.specs.Flags.{Reads}
 use Rattle.cli.specs.declared.options.Options.{Options}
 use Rattle.cli.specs.declared.options.Usage.{Usage}
@@ -21,6 +21,7 @@ noted o word (Ok Version) = Ok (record { help = o.help; version = true; strict =
 noted o word (Ok Strict) = Ok (record { help = o.help; version = o.version; strict = true; unpack = o.unpack; full = o.full; file = o.file })
 noted o word (Ok Unpack) = Ok (record { help = o.help; version = o.version; strict = o.strict; unpack = true; full = o.full; file = o.file })
 noted o word (Ok Full) = Ok (record { help = o.help; version = o.version; strict = o.strict; unpack = o.unpack; full = true; file = o.file })
+noted o word (Ok Unknown) = Err UnknownOption
 noted o word (Ok Name) = with_file o o.file word
 
 -- What is noted of a word is what it is read as.

@@ -5,8 +5,12 @@ pub mod flags;
 pub mod options;
 pub mod source;
 
+ghost use Rattle.cli.specs.Flags.{Means};
+ghost use Rattle.std.specs.Prelude.{◌≡◌, ◌==◌, slice_index};
+
 use anyhow::anyhow;
-use options::Options;
+use flags::Flag;
+use options::{Options, Usage};
 use source::Source;
 use std::io::Write;
 use std::process::ExitCode;
@@ -16,14 +20,38 @@ const VERSION: &str = "0.1.0";
 
 const STOPPED: &str = "the command ends early or is of unknown kind";
 
-// A program: its name, what --help prints, and what it does with what it reads, once its options are known.
-pub trait Tool {
-    const NAME: &'static str;
+// What a word is. An option that is none of ours is unknown, so this cannot fail.
+pub fn flag(word: &str) -> Flag
+    ensures { Means word.now result }
+{
+    match word {
+        "--help" => Flag::Help,
+        "--version" => Flag::Version,
+        "--strict" => Flag::Strict,
+        "--unpack" => Flag::Unpack,
+        "--full" => Flag::Full,
+        _ if is_option(word.as_bytes()) => Flag::Unknown,
+        _ => Flag::Name,
+    }
+}
 
-    const HELP: &'static str;
+fn is_option(word: &[u8]) -> bool
+    ensures { result ≡ (slice_index word.now 0 == 45) }
+{
+    word.starts_with(b"-")
+}
+
+// A program: its name, what --help prints, whether it has --full, and what it does with what it reads, once its options are known.
+pub trait Tool {
+    fn name(&self) -> &'static str;
+
+    fn help(&self) -> &'static str;
+
+    fn has_full(&self) -> bool;
 
     // Writes to standard output, and says at which byte reading stopped, if it did before the end.
     fn process(
+        &self,
         rt: &HostRuntime,
         options: &Options,
         source: &mut Source,
@@ -56,20 +84,20 @@ impl<E: Into<anyhow::Error>> From<E> for Failure {
 }
 
 // Runs a program, and says in one line on standard error what went wrong.
-pub fn run<T: Tool>(rt: &HostRuntime) -> ExitCode {
-    let Err(e) = attempt::<T>(rt) else {
+pub fn run<T: Tool>(rt: &HostRuntime, tool: &T) -> ExitCode {
+    let Err(e) = attempt(rt, tool) else {
         return ExitCode::SUCCESS;
     };
-    let name = T::NAME;
+    let name = tool.name();
     let _ = eprintln!(rt; "{name}: {e}");
     ExitCode::FAILURE
 }
 
-fn attempt<T: Tool>(rt: &HostRuntime) -> Result<(), Failure> {
-    let options = gather(rt)?;
-    let name = T::NAME;
+fn attempt<T: Tool>(rt: &HostRuntime, tool: &T) -> Result<(), Failure> {
+    let options = gather(rt, tool)?;
+    let name = tool.name();
     if options.help {
-        output(rt, T::HELP.as_bytes())?;
+        output(rt, tool.help().as_bytes())?;
         return Ok(());
     }
     if options.version {
@@ -84,7 +112,7 @@ fn attempt<T: Tool>(rt: &HostRuntime) -> Result<(), Failure> {
             error: error.into(),
         }),
     };
-    let stopped = match T::process(rt, &options, &mut source) {
+    let stopped = match tool.process(rt, &options, &mut source) {
         Ok(stopped) => stopped,
         Err(error) if source.failed() => return Err(Failure {
             path: options.file,
@@ -102,11 +130,14 @@ fn attempt<T: Tool>(rt: &HostRuntime) -> Result<(), Failure> {
     Ok(())
 }
 
-// The options of this run.
-fn gather(rt: &HostRuntime) -> anyhow::Result<Options> {
+// The options of this run. One that only another program has is as unknown as any.
+fn gather<T: Tool>(rt: &HostRuntime, tool: &T) -> anyhow::Result<Options> {
     let mut options = Options::none();
     for word in env::args(rt)?.skip(1) {
         options = options.noted(word)?;
+        if options.full && !tool.has_full() {
+            return Err(Usage::UnknownOption.into());
+        }
     }
     Ok(options)
 }

@@ -63,6 +63,7 @@ impl Options {
                 ..self
             }),
             Flag::Full => Ok(Options { full: true, ..self }),
+            Flag::Unknown => Err(Usage::UnknownOption),
             Flag::Name if self.file.is_some() => Err(Usage::TwoFiles),
             Flag::Name => Ok(Options {
                 file: Some(word),

@@ -33,10 +33,12 @@ impl Source {
         self.failed
     }
 
-    // All that is left.
+    // All that is left. Reading fails too where memory runs out.
     pub fn whole(&mut self, heap: Global) -> io::Result<Vec<u8>> {
         let mut bytes = Vec::new(heap);
-        self.read_to_end(&mut bytes)?;
+        let result = self.read_to_end(&mut bytes);
+        self.failed = result.is_err();
+        result?;
         Ok(bytes)
     }
 }

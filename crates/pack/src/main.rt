@@ -6,15 +6,26 @@ use cli::options::Options;
 use cli::source::Source;
 use std::process::ExitCode;
 
+const HELP: &str =
+    "pack [FILE]\npack --unpack [--strict] [FILE]\n\nWrites the command file of a day in text, FILE or standard input; nothing is written if a line is bad.\nWith --unpack it writes the text of a command file.\n\n  --unpack   the other way\n  --strict   end with status 1 if the command file ends within a command or has one of unknown kind\n  --help     print this and end\n  --version  print the version and end\n";
+
 struct Packer;
 
 impl Tool for Packer {
-    const NAME: &'static str = "pack";
+    fn name(&self) -> &'static str {
+        "pack"
+    }
 
-    const HELP: &'static str =
-        "pack [FILE]\npack --unpack [--strict] [FILE]\n\nWrites the command file of a day in text, FILE or standard input; nothing is written if a line is bad.\nWith --unpack it writes the text of a command file.\n\n  --unpack   the other way\n  --strict   end with status 1 if the command file ends within a command or has one of unknown kind\n  --help     print this and end\n  --version  print the version and end\n";
+    fn help(&self) -> &'static str {
+        HELP
+    }
+
+    fn has_full(&self) -> bool {
+        false
+    }
 
     fn process(
+        &self,
         rt: &HostRuntime,
         options: &Options,
         source: &mut Source,
@@ -42,5 +53,5 @@ fn unpack_file(rt: &HostRuntime, file: &[u8]) -> anyhow::Result<Option<u64>> {
 }
 
 fn main(rt: HostRuntime) -> ExitCode {
-    cli::run::<Packer>(&rt)
+    cli::run(&rt, &Packer)
 }

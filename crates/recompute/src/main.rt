@@ -6,16 +6,27 @@ use cli::options::Options;
 use cli::source::Source;
 use std::process::ExitCode;
 
+const HELP: &str =
+    "recompute [--strict] [FILE]\n\nReads a command file, FILE or standard input, keeps every reading and works everything out anew at each\ncommand. Prints the visits retracted and added, the refusals, and at the end the ledger.\n\n  --strict   end with status 1 if the file ends within a command or has one of unknown kind\n  --help     print this and end\n  --version  print the version and end\n";
+
 struct Recompute;
 
 impl Tool for Recompute {
-    const NAME: &'static str = "recompute";
+    fn name(&self) -> &'static str {
+        "recompute"
+    }
 
-    const HELP: &'static str =
-        "recompute [--strict] [FILE]\n\nReads a command file, FILE or standard input, keeps every reading and works everything out anew at each\ncommand. Prints the visits retracted and added, the refusals, and at the end the ledger.\n\n  --strict   end with status 1 if the file ends within a command or has one of unknown kind\n  --help     print this and end\n  --version  print the version and end\n";
+    fn help(&self) -> &'static str {
+        HELP
+    }
+
+    fn has_full(&self) -> bool {
+        false
+    }
 
     // As in `settle`: two programs are asked for, and this one stays with the reference.
     fn process(
+        &self,
         rt: &HostRuntime,
         _options: &Options,
         source: &mut Source,
@@ -26,5 +37,5 @@ impl Tool for Recompute {
 }
 
 fn main(rt: HostRuntime) -> ExitCode {
-    cli::run::<Recompute>(&rt)
+    cli::run(&rt, &Recompute)
 }

@@ -7,16 +7,27 @@ use cli::source::Source;
 use std::process::ExitCode;
 use store::capacity::{FULL, SMALL};
 
+const HELP: &str =
+    "settle [--full] [--strict] [FILE]\n\nReads a command file, FILE or standard input, and prints for each command the visits retracted (-) and\nadded (+) or why it was refused, and at the end the ledger. Keeps at most 64 live visits and 256 readings.\n\n  --full     keep up to 1,024 live visits and 4,096 readings\n  --strict   end with status 1 if the file ends within a command or has one of unknown kind\n  --help     print this and end\n  --version  print the version and end\n";
+
 struct Settle;
 
 impl Tool for Settle {
-    const NAME: &'static str = "settle";
+    fn name(&self) -> &'static str {
+        "settle"
+    }
 
-    const HELP: &'static str =
-        "settle [--full] [--strict] [FILE]\n\nReads a command file, FILE or standard input, and prints for each command the visits retracted (-) and\nadded (+) or why it was refused, and at the end the ledger. Keeps at most 64 live visits and 256 readings.\n\n  --full     keep up to 1,024 live visits and 4,096 readings\n  --strict   end with status 1 if the file ends within a command or has one of unknown kind\n  --help     print this and end\n  --version  print the version and end\n";
+    fn help(&self) -> &'static str {
+        HELP
+    }
+
+    fn has_full(&self) -> bool {
+        true
+    }
 
     // As in `recompute`: two programs are asked for, and the store takes the reference's place in this one.
     fn process(
+        &self,
         rt: &HostRuntime,
         options: &Options,
         source: &mut Source,
@@ -28,5 +39,5 @@ impl Tool for Settle {
 }
 
 fn main(rt: HostRuntime) -> ExitCode {
-    cli::run::<Settle>(&rt)
+    cli::run(&rt, &Settle)
 }
