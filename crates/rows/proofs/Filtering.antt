@@ -1,6 +1,6 @@
 -- A filter of rows in place.
 use Rattle.std.proofs.Common.{◌≡◌, ℕ, ◌+◌, ◌*◌, ◌<◌, ◌≤◌, Bool, true, false, List, ◌++◌, length, get_or, take, drop, filter, sym, ap, ◌∙◌, arith}
-use Rattle.std.proofs.lemmas.List.Filters.{FiltersInPlace, FiltersInPlace-all, FiltersInPlace-more_no, FiltersInPlace-more_set}
+use Rattle.std.proofs.lemmas.List.Filters.{FiltersInPlace, FiltersInPlace-all, FiltersInPlace-more_here, FiltersInPlace-more_no, FiltersInPlace-more_set}
 use Rattle.std.specs.List.{between}
 use Rattle.rows.specs.Cells.{cleared}
 use Rattle.rows.specs.Rows.{Laws, holding, rows_in}
@@ -24,6 +24,10 @@ module _ {R : Type 0} {w : ℕ} {made : List ℕ → R} {cells : R → List ℕ}
   module _ (r : R) (here : i < n) (read : r ≡ get_or (rows_in w made n ys) i r) where
     pub filtered_no : false ≡ p r → Filtered w made p n xs ys k (i + 1)
     filtered_no e = (FiltersInPlace-more_no so.0 (rw (length_rows w made n ys) here) (sym e) read, so.1)
+
+    -- Row i stays where it stands.
+    pub filtered_here : true ≡ p r → k ≡ i → Filtered w made p n xs ys (k + 1) (i + 1)
+    filtered_here e same = (FiltersInPlace-more_here so.0 (rw (length_rows w made n ys) here) (sym e) read same, so.1)
 
     -- Row k is written, which lies within the n rows.
     pub filtered_yes : (zs : List ℕ) → true ≡ p r → n * w ≤ length ys → zs ≡ take (k * w) ys ++ (cells r ++ drop (k * w + w) ys)

@@ -45,6 +45,13 @@ over_taken i [] xs = refl
 over_taken i (l ∷ ls) [] = refl
 over_taken i (l ∷ ls) (x ∷ xs) = ap (cond (over l x) (Some i)) (over_taken (i + 1) ls xs)
 
+-- Of row i no more is read than its numbers. The code holds the width in a variable v of its own, and the limits in one too.
+pub over_row : (v w i : ℕ) (ks ls : List (Option ℕ)) (xs : List ℕ) → v ≡ w → ks ≡ ls → length ls ≡ w
+    → first_over 0 ks (take (i * v + v - i * v) (drop (i * v) xs)) ≡ first_over 0 ls (drop (i * w) xs)
+over_row v w i ks ls xs e same limited =
+    let long : i * v + v - i * v ≡ length ls = omega arith in
+    rw (long, same, e) (over_taken 0 ls (drop (i * w) xs))
+
 pub over_append : (i : ℕ) (ls ms : List (Option ℕ)) (xs ys : List ℕ) → length ls ≡ length xs
     → first_over i (ls ++ ms) (xs ++ ys) ≡ or_else (first_over i ls xs) (first_over (i + length xs) ms ys)
 over_append i [] ms [] ys e = rw (add-zero i)

@@ -106,7 +106,7 @@ impl<'a, R: Row> Rows<'a, R> {
         let w = R::WIDTH;
         // By place, since the answer is one.
         for i in 0..self.len {
-            if let Some(cell) = over(&self.cells[i * w..], R::limits()) {
+            if let Some(cell) = over(&self.cells[i * w..i * w + w], R::limits()) {
                 return Some(i * w + cell);
             }
         }
@@ -255,7 +255,10 @@ impl<'a, R: Row> Table<'a, R> {
         for i in 0..self.len {
             let row = self.row(i);
             if test(row) {
-                self.put(to, row);
+                // What stays at its place is not written again.
+                if to < i {
+                    self.put(to, row);
+                }
                 to += 1;
             }
         }

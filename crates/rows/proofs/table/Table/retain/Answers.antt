@@ -2,9 +2,9 @@ use Rattle.std.proofs.Common.{◌≡◌, ◌*◌, ◌<◌, ◌≤◌, length, ge
 use Rattle.rows.specs.Cells.{cleared}
 use Rattle.rows.specs.Rows.{rows_in}
 use Rattle.rows.proofs.Becoming.{len_put, put_stored}
-use Rattle.rows.proofs.Filtering.{filtered_no, filtered_yes, kept_held, kept_rows}
+use Rattle.rows.proofs.Filtering.{filtered_here, filtered_no, filtered_yes, kept_held, kept_rows}
 use Rattle.rows.proofs.table.Table.retain.Goals as goal
-use Rattle.rows.proofs.table.Table.retain.Goals.{then-test, else-test}
+use Rattle.rows.proofs.table.Table.retain.Goals.{then-test, else-test, then-to-i, else-to-i}
 
 pub loop-i-preserved : goal.loop-i-preserved
 loop-i-preserved g c =
@@ -20,13 +20,22 @@ loop-i-preserved g c =
     c.row-row.ensures row ∙ ap (λ m. get_or (rows_in r.WIDTH r.made m ys) i row) c.loop-i.invariant.many in
     let fits : n * r.WIDTH ≤ length ys = rw (sym c.loop-i.invariant.many) c.loop-i.self.fits in
     elim c.if-test.branch [
-      | then-test w ↦ rw (w.self-is, w.to-is) record {
-        same = w.put.ensures.after.same ∙ c.loop-i.invariant.same;
-        many = len_put k row w.put.ensures.after ∙ c.loop-i.invariant.many;
-        behind = omega arith;
-        passing = λ p answers. filtered_yes r.laws p n xs ys k i (c.loop-i.invariant.passing p answers) row here read
-            w.put.new.self.cells.now (sym w.if-test.true ∙ answers row c.test.result c.test.ensures) fits (put_stored k row (omega arith) w.put.ensures.after);
-      }
+      | then-test w ↦ elim w.if-to-i.branch [
+        | then-to-i v ↦ rw (w.self-is, w.to-is, v.self-is) record {
+          same = v.put.ensures.after.same ∙ c.loop-i.invariant.same;
+          many = len_put k row v.put.ensures.after ∙ c.loop-i.invariant.many;
+          behind = omega arith;
+          passing = λ p answers. filtered_yes r.laws p n xs ys k i (c.loop-i.invariant.passing p answers) row here read
+              v.put.new.self.cells.now (sym w.if-test.true ∙ answers row c.test.result c.test.ensures) fits (put_stored k row (omega arith) v.put.ensures.after);
+        }
+        | else-to-i v ↦ rw (w.self-is, w.to-is, v.self-is) record {
+          same = c.loop-i.invariant.same;
+          many = c.loop-i.invariant.many;
+          behind = omega arith;
+          passing = λ p answers. filtered_here r.laws p n xs ys k i (c.loop-i.invariant.passing p answers) row here read
+              (sym w.if-test.true ∙ answers row c.test.result c.test.ensures) (omega arith);
+        }
+      ]
       | else-test w ↦ rw (w.self-is, w.to-is) record {
         same = c.loop-i.invariant.same;
         many = c.loop-i.invariant.many;
