@@ -3,13 +3,14 @@ use Rattle.std.proofs.Common.{◌≡◌, ℕ, zero, suc, ◌+◌, ◌-◌, ◌<�
 use Rattle.std.specs.List.{AllByRecursion, prefix_len}
 use Rattle.std.proofs.lemmas.Bool.Decides.{nat_tests}
 use Rattle.std.proofs.lemmas.List.{append_assoc, append-nil, length-append}
-use Rattle.arrayvec.specs.ArrayVec.{ArrayVec}
 use Rattle.visit.specs.declared.Terms.{Terms}
 use Rattle.visit.specs.declared.Visit.{Visit}
 use Rattle.visit.specs.Visits.{near, visit_before}
 use Rattle.model.proofs.Common.{split}
 use Rattle.live.specs.Apart.{Apart, Gathers, WellBefore}
+use Rattle.live.specs.Near.{visits_of}
 use Rattle.live.specs.Steps.{step_of}
+use Rattle.live.specs.declared.near.Near.{Near}
 use Rattle.live.specs.declared.steps.Step.TheVariants.{Take, Pass, Stop}
 use Rattle.live.proofs.Stepping.{passed_before, stopped_neither, taken_near}
 use Rattle.live.proofs.Together.{by_the_first, met, met_few, passed}
@@ -44,12 +45,12 @@ collected_from t u (v ∷ vs) (suc k) p h =
     (λ b. absurd (omega (arith, simp b at h)))
 
 module _ {t : Terms} {u : Visit} {vs : List Visit} (moment : u.from ≡ u.to) (apart : Apart t vs) where
-  module _ {near : ArrayVec Visit} {at : ℕ} {rest : List Visit} (so : Collected t u vs near.items at rest) where
+  module _ (near : Near) {at : ℕ} {rest : List Visit} (so : Collected t u vs (visits_of near) at rest) where
     -- All that are near have been met.
     collected_all : met t u rest ≡ [] → passed t u rest ≡ 0 → Gathers t u vs (record { visit = u; near = near; at = at })
     collected_all none found =
         let first = by_the_first t u vs (omega arith) apart in
-        let all : near.items ≡ met t u vs = sym (append-nil near.items) ∙ ap (λ l. near.items ++ l) (sym none) ∙ so.held in
+        let all : visits_of near ≡ met t u vs = sym (append-nil (visits_of near)) ∙ ap (λ l. visits_of near ++ l) (sym none) ∙ so.held in
         record {
           few = omega (arith, ap length all, met_few t u vs moment apart);
           near = ap (λ l. u ∷ l) (all ∙ sym first.taken);
@@ -66,28 +67,28 @@ module _ {t : Terms} {u : Visit} {vs : List Visit} (moment : u.from ≡ u.to) (a
           let after = (stopped_neither t u x step).1 in
           collected_all (ap (met t u) next ∙ simp (far, after)) (ap (passed t u) next ∙ simp (far, after))
 
-      pub collected_past : Pass ≡ step_of t u x → Collected t u vs near.items (at + 1) left'
+      pub collected_past : Pass ≡ step_of t u x → Collected t u vs (visits_of near) (at + 1) left'
       collected_past step =
           let far = (passed_before t u x step).0 in
           let before = (passed_before t u x step).1 in
           let same : met t u rest ≡ met t u left' = ap (met t u) next ∙ simp (far, before) in
           let one : passed t u rest ≡ 1 + passed t u left' = ap (passed t u) next ∙ simp (far, before) in
-          record { held = ap (λ l. near.items ++ l) (sym same) ∙ so.held; place = omega (arith, so.place); behind = omega (arith, so.behind, ap length next) }
+          record { held = ap (λ l. visits_of near ++ l) (sym same) ∙ so.held; place = omega (arith, so.place); behind = omega (arith, so.behind, ap length next) }
 
       module _ (step : Take ≡ step_of t u x) where
         one_more : met t u rest ≡ x ∷ met t u left'
         one_more = let is_near = taken_near t u x step in ap (met t u) next ∙ simp is_near
 
         -- There is room for one more, since two at most are met.
-        pub collected_room : length near.items < 2
-        collected_room = omega (arith, met_few t u vs moment apart, ap length so.held, length-append near.items (met t u rest), ap length one_more)
+        pub collected_room : length (visits_of near) < 2
+        collected_room = omega (arith, met_few t u vs moment apart, ap length so.held, length-append (visits_of near) (met t u rest), ap length one_more)
 
-        pub collected_taken : Collected t u vs (near.items ++ x ∷ []) at left'
+        pub collected_taken : Collected t u vs (visits_of near ++ x ∷ []) at left'
         collected_taken =
             let is_near = taken_near t u x step in
             let same : passed t u rest ≡ passed t u left' = ap (passed t u) next ∙ simp is_near in
             record {
-              held = append_assoc near.items (x ∷ []) (met t u left') ∙ ap (λ l. near.items ++ l) (sym one_more) ∙ so.held;
+              held = append_assoc (visits_of near) (x ∷ []) (met t u left') ∙ ap (λ l. visits_of near ++ l) (sym one_more) ∙ so.held;
               place = omega (arith, so.place);
               behind = omega (arith, so.behind, ap length next);
             }

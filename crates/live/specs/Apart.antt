@@ -1,10 +1,10 @@
 -- Visits that are in order and apart, and those that are gathered to be merged into one.
-use Rattle.std.specs.Prelude.{◌≡◌, ◌+◌, ◌<◌, ◌≤◌, List, [], ◌∷◌}
+use Rattle.std.specs.Prelude.{◌≡◌, ◌+◌, ◌<◌, ◌≤◌, List, [], ◌∷◌, length}
 use Rattle.std.specs.List.{AllByRecursion}
-use Rattle.arrayvec.specs.ArrayVec.{array_vec_len}
 use Rattle.visit.specs.declared.Terms.{Terms}
 use Rattle.visit.specs.declared.Visit.{Visit}
 use Rattle.visit.specs.Readings.{gap_of}
+use Rattle.live.specs.Near.{visits_of}
 use Rattle.live.specs.Walk.{place_of, taken_in}
 use Rattle.live.specs.declared.gathering.Gathered.{Gathered}
 
@@ -23,6 +23,6 @@ own g = g.visit
 
 -- Gathered for a visit v among others: v itself, those that it takes in, and its place.
 pub record Gathers (t : Terms) (v : Visit) (vs : List Visit) (g : Gathered) : Type 0 where
-  pub few : array_vec_len g.near ≤ 2
-  pub near : own g ∷ g.near.items ≡ v ∷ taken_in t v vs
+  pub few : length (visits_of g.near) ≤ 2
+  pub near : own g ∷ visits_of g.near ≡ v ∷ taken_in t v vs
   pub place : g.at ≡ place_of t v vs

@@ -1,4 +1,5 @@
 pub mod Tables
 pub mod Steps
 pub mod Walk
+pub mod Near
 pub mod Apart

@@ -2,23 +2,24 @@
 ghost use Rattle.std.specs.Prelude.{◌≡◌, ◌+◌, ◌-◌, ◌^◌, ◌<◌, ◌≤◌, max};
 ghost use Rattle.std.specs.List.{prefix_len};
 ghost use Rattle.live.specs.Apart.{Apart, Gathers, own};
+ghost use Rattle.live.specs.Near.{visits_of};
 ghost use Rattle.rows.specs.Tables.{Becomes, HasRoom, rows_of, rows_seen};
 ghost use Rattle.visit.specs.Sums.{SumsFit};
 ghost use Rattle.visit.specs.Visits.{visit_before};
 ghost use Rattle.model.specs.Few.{merged_with};
 ghost use Rattle.model.specs.Store.{merge_in};
 
+use crate::near::Near;
 use crate::steps::{Step, next_step};
-use arrayvec::ArrayVec;
 use rows::search::Search;
 use rows::table::{Rows, Table};
 use visit::{Terms, Visit};
 
 // A visit, those that it is near to, and the place of the first of them.
-#[derive(Clone, Drop)]
+#[derive(Clone, Copy)]
 pub struct Gathered {
     pub visit: Visit,
-    pub near: ArrayVec<Visit, 2>,
+    pub near: Near,
     pub at: usize,
 }
 
@@ -43,7 +44,7 @@ fn gather_from(rows: Rows<'_, Visit>, start: usize, visit: Visit, terms: Terms) 
     ensures gathers { Gathers terms visit (rows_seen rows.entry) result }
 {
     let (_, rest) = rows.split_at(start);
-    let mut near = ArrayVec::new();
+    let mut near = Near::Neither;
     // Counted by hand, since the place is a part of the answer.
     let mut at = start;
     for row in rest {
@@ -58,11 +59,11 @@ fn gather_from(rows: Rows<'_, Visit>, start: usize, visit: Visit, terms: Terms) 
 
 // One visit of all that are gathered. By a loop: for a `fold` it would have to be shown of every step that it can be called.
 fn merge_all(gathered: &Gathered) -> Visit
-    requires { SumsFit gathered.now.near.items (own gathered.now).count (own gathered.now).sum }
-    ensures { result ≡ merged_with (own gathered.now) gathered.now.near.items }
+    requires { SumsFit (visits_of gathered.now.near) (own gathered.now).count (own gathered.now).sum }
+    ensures { result ≡ merged_with (own gathered.now) (visits_of gathered.now.near) }
 {
     let mut whole = gathered.visit;
-    for visit in &gathered.near {
+    for visit in gathered.near.as_slice() {
         whole = whole.merge(*visit);
     }
     whole
@@ -75,7 +76,7 @@ pub fn merge_apart(table: &mut Table<'_, Visit>, gathered: &Gathered, _terms: Te
     requires apart { Apart _terms (rows_of table.old) }
     requires gathers { Gathers _terms (own gathered.now) (rows_of table.old) gathered.now }
     requires fits { SumsFit (rows_of table.old) (own gathered.now).count (own gathered.now).sum }
-    ensures made { result ≡ merged_with (own gathered.now) gathered.now.near.items }
+    ensures made { result ≡ merged_with (own gathered.now) (visits_of gathered.now.near) }
     ensures after { Becomes table.old table.new (max table.old.len table.new.len) (merge_in _terms (own gathered.now) (rows_of table.old)) }
 {
     let whole = merge_all(gathered);

@@ -4,6 +4,7 @@
 pub mod expiry;
 pub mod gathering;
 pub mod merging;
+pub mod near;
 pub mod open;
 pub mod steps;
 #[cfg(test)]

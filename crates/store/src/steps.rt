@@ -75,7 +75,7 @@ fn merge_near(
 {
     let gathered = gather(visits.rows(), reading.single(), clock.terms);
     let made = merge_apart(visits, &gathered, clock.terms);
-    by_reading_apart(&gathered.near, made, clock, out)
+    by_reading_apart(gathered.near.as_slice(), made, clock, out)
 }
 
 // The reading's own visit goes among the live ones, and the reading among the kept ones: how many visits changed.

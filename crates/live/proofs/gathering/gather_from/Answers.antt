@@ -6,7 +6,6 @@ use Rattle.rows.proofs.Splits.{length_rows}
 use Rattle.rows.specs.Tables.{rows_left, rows_seen}
 use Rattle.live.proofs.Collecting.{collected_end, collected_from, collected_room, collected_stop}
 use Rattle.live.proofs.gathering.gather_from.Goals as goal
-use Rattle.live.proofs.gathering.gather_from.Goals.{in-None, in-Some+in-Stop}
 
 pub split_at-requires : goal.split_at-requires
 split_at-requires c =
@@ -17,15 +16,13 @@ pub loop-row-init : goal.loop-row-init
 loop-row-init c =
     let vs = rows_seen c.args.rows in
     let rest : rows_left c.into_iter-row-iterator.result ≡ drop c.args.start vs = c.into_iter-row-iterator.ensures.into_iter_gives.0 ∙ c.split_at.ensures.rest in
-    (tt, tt, rw (c.new-near.ensures, rest) (collected_from c.args.terms c.args.visit vs c.args.start c.requires.apart c.requires.passed))
+    (tt, tt, rw rest (collected_from c.args.terms c.args.visit vs c.args.start c.requires.apart c.requires.passed))
 
 pub push-requires : goal.push-requires
-push-requires c =
-    (omega arith, collected_room c.requires.moment c.requires.apart c.loop-row.invariant.2 c.in-Some.row (rows_left c.next.new.self) c.in-Some.ensures.steps c.in-Take.ensures)
+push-requires c = collected_room c.requires.moment c.requires.apart c.loop-row.near c.loop-row.invariant.2 c.in-Some.row (rows_left c.next.new.self) c.in-Some.ensures.steps c.in-Take.ensures
 
-pub returns-clause-gathers : goal.returns-clause-gathers
-returns-clause-gathers c =
-    elim c.match-next.branch [
-      | in-None w ↦ collected_end c.requires.moment c.requires.apart c.loop-row.invariant.2 w.in-None.ensures.steps.0
-      | in-Some+in-Stop w ↦ collected_stop c.requires.moment c.requires.apart c.loop-row.invariant.2 w.in-Some.row (rows_left c.next.new.self) w.in-Some.ensures.steps w.in-Stop.ensures
-    ]
+pub returns-in-None-clause-gathers : goal.returns-in-None-clause-gathers
+returns-in-None-clause-gathers c = collected_end c.requires.moment c.requires.apart c.loop-row.near c.loop-row.invariant.2 c.in-None.ensures.steps.0
+
+pub returns-in-Stop-clause-gathers : goal.returns-in-Stop-clause-gathers
+returns-in-Stop-clause-gathers c = collected_stop c.requires.moment c.requires.apart c.loop-row.near c.loop-row.invariant.2 c.in-Some.row (rows_left c.next.new.self) c.in-Some.ensures.steps c.in-Stop.ensures

@@ -10,11 +10,11 @@ pub by_reading_apart-requires : goal.by_reading_apart-requires
 by_reading_apart-requires c =
     let t = c.args.visits.now in
     let seen = seen_at c.rows.result t.len t.cells.now c.rows.ensures.cells c.rows.ensures.len in
-    omega (arith, near_few c.args.clock c.args.reading (rows_of t) c.single.ensures seen c.gather-gathered.ensures.gathers c.deref.ensures.0, length_of t, c.requires.out)
+    omega (arith, near_few c.args.clock c.args.reading (rows_of t) c.single.ensures seen c.gather-gathered.ensures.gathers c.as_slice.ensures, length_of t, c.requires.out)
 
 pub returns-clause-out : goal.returns-clause-out
 returns-clause-out c =
     let t = c.args.visits.now in
     let seen = seen_at c.rows.result t.len t.cells.now c.rows.ensures.cells c.rows.ensures.len in
     subst (λ o. OutAfter o c.by_reading_apart.result c.args.out.now c.by_reading_apart.new.out)
-    (near_changes c.args.clock c.args.reading (rows_of t) c.single.ensures seen c.gather-gathered.ensures.gathers c.deref.ensures.0 c.gather-gathered.ensures.own c.merge_apart-made.ensures.made c.requires.apart) c.by_reading_apart.ensures
+    (near_changes c.args.clock c.args.reading (rows_of t) c.single.ensures seen c.gather-gathered.ensures.gathers c.as_slice.ensures c.gather-gathered.ensures.own c.merge_apart-made.ensures.made c.requires.apart) c.by_reading_apart.ensures
