@@ -2,6 +2,7 @@ pub mod Parts
 pub mod Placing
 pub mod Stepping
 pub mod Aside
+pub mod Walking
 pub mod Together
 pub mod Collecting
 pub mod Wholes

@@ -59,12 +59,25 @@ pub fn place(table: &mut Table<'_, Visit>, placed: Placed)
     table.insert(placed.at, placed.visit);
 }
 
-// Behind the visits cells that are no longer taken are 0, and the rest is as it was.
+// Near visits leave the table as they are taken in. Behind the visits cells that are no longer taken are 0, and the rest is as it was.
 pub fn merge(table: &mut Table<'_, Visit>, visit: Visit, terms: Terms)
     requires room { HasRoom table.old 1 }
     requires fits { SumsFit (rows_of table.old) visit.count visit.sum }
     ensures after { Becomes table.old table.new (max table.old.len table.new.len) (merge_in terms visit (rows_of table.old)) }
 {
-    let placed = set_aside(table, visit, terms);
-    place(table, placed);
+    let mut whole = visit;
+    let mut at = 0;
+    // By place, since the table changes under the walk.
+    while at < table.len {
+        let row = table.row(at);
+        match next_step(whole, row, terms) {
+            Step::Take => {
+                whole = whole.merge(row);
+                table.remove(at);
+            }
+            Step::Pass => at += 1,
+            Step::Stop => break,
+        }
+    }
+    table.insert(at, whole);
 }
