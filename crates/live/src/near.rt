@@ -34,10 +34,10 @@ impl Near {
         requires { length (visits_of self.old) < 2 }
         ensures { visits_of self.new ≡ visits_of self.old ++ visit ∷ [] }
     {
-        *self = match *self.as_slice() {
-            [] => Near::One([visit]),
-            [first] => Near::Both([first, visit]),
-            _ => *self,
-        };
+        match *self.as_slice() {
+            [] => *self = Near::One([visit]),
+            [first] => *self = Near::Both([first, visit]),
+            _ => {}
+        }
     }
 }
