@@ -49,6 +49,7 @@ pub fn set_aside(table: &mut Table<'_, Visit>, visit: Visit, terms: Terms) -> Pl
 }
 
 // Only the first `others` rows stay, and the visit is put among them.
+#[tactic(auto, using(crate::proofs::Placing::cut_len, crate::proofs::Placing::cut_long, crate::proofs::Placing::cut_put))]
 pub fn place(table: &mut Table<'_, Visit>, placed: Placed)
     requires place { placed.at ≤ placed.others }
     requires few { placed.others ≤ table.old.len }
