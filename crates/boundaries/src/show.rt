@@ -56,11 +56,14 @@ pub fn show_out(
 // The cells of the layout that are not 0. The two rows are the store as it is and as it was.
 pub fn show_store(text: &mut String, store: &[u64], before: &[u64]) -> anyhow::Result<()> {
     let (layout, behind) = cut(store, STORE_SIZE);
-    let is_shown = |cell: &(usize, &u64)| *cell.1 != 0;
-    let count = layout.iter().enumerate().filter(is_shown).count();
+    let mut count: usize = 0;
     text.push_str("  store")?;
-    for (i, x) in layout.iter().enumerate().filter(is_shown).take(SHOWN) {
-        write!(text, " {i}={x}")?;
+    // The row is long, so that it is walked once: what is not printed is counted too.
+    for (i, x) in layout.iter().enumerate().filter(|cell| *cell.1 != 0) {
+        if count < SHOWN {
+            write!(text, " {i}={x}")?;
+        }
+        count = count.saturating_add(1);
     }
     end_line(text, layout, count, behind == cut(before, STORE_SIZE).1)
 }
