@@ -15,8 +15,9 @@ ghost use Rattle.std.specs.List.{flat_map};
 ghost use Rattle.std.specs.Prelude.{◌≡◌, IfOk, Ok, string_bytes};
 
 use feed::files::read_terms;
+use feed::text::put_ledger;
 pub use feed::whole::{FileError, FileText};
-use pieces::Reporting;
+use pieces::{Reporting, apply_whole};
 use reference::Reference;
 use sessions::Sessions;
 use std::alloc::{AllocError, Global};
@@ -42,6 +43,26 @@ pub fn in_pieces<S: Sessions + Drop>(
     Ok(FileText { text, unread })
 }
 
+// The report of commands that lie in memory together: they are done where they lie, and nothing of them is copied.
+#[tactic(auto, using(crate::proofs::Cutting::whole_unread))]
+pub fn run<S: Sessions + Drop>(
+    heap: Global,
+    mut sessions: S,
+    bytes: &[u8],
+) -> Result<FileText, AllocError>
+    ensures text { IfOk result (λ p. string_bytes p.text ≡ S.prints sessions (commands bytes.now)) }
+    ensures rest { IfOk result (λ p. p.unread ≡ Unread bytes.now) }
+{
+    let mut text = String::new(heap);
+    let done = apply_whole(heap, &mut sessions, &mut text, bytes)?;
+    let lines = sessions.ledger(heap)?;
+    put_ledger(&mut text, &lines)?;
+    Ok(FileText {
+        text,
+        unread: bytes.len() - done,
+    })
+}
+
 // The report of a whole file by what is made of its terms.
 fn report<S: Sessions + Drop, F: FnOnce(Terms) -> Result<S, AllocError>>(
     heap: Global,
@@ -52,7 +73,7 @@ fn report<S: Sessions + Drop, F: FnOnce(Terms) -> Result<S, AllocError>>(
     ensures { ReportedBy (λ t s. F.post start t (Ok s)) S.prints file.now result }
 {
     let (terms, rest) = read_terms(file).ok_or(FileError::TooShort)?;
-    Ok(in_pieces(heap, start(terms)?, &[rest])?)
+    Ok(run(heap, start(terms)?, rest)?)
 }
 
 // The report of a whole file by the reference.

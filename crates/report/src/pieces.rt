@@ -24,7 +24,7 @@ fn apply_one<S: Sessions>(
 }
 
 // Does the commands that are whole in the bytes, and says how many bytes they take.
-fn apply_whole<S: Sessions>(
+pub(crate) fn apply_whole<S: Sessions>(
     heap: Global,
     sessions: &mut S,
     text: &mut String,
