@@ -9,7 +9,8 @@ ghost use Rattle.command.specs.Outcomes.{outcome_of, reply_of};
 ghost use Rattle.owned.specs.Rows.{lines_shown, outcome_to, row_then};
 ghost use Rattle.owned.specs.State.{IsNew, capacity_of, out_long, row_of};
 ghost use Rattle.owned.specs.Written.{amount_in, below_limits};
-ghost use Rattle.std.specs.Prelude.{◌≡◌, length, IfOk};
+ghost use Rattle.std.specs.Prelude.{◌≡◌, true, length, IfOk};
+ghost use Rattle.store.specs.Checks.{sound_row};
 
 use answers::answer_of;
 use command::cells::COMMAND_WIDTH;
@@ -57,6 +58,23 @@ pub fn answer(
 {
     let cells: [u64; COMMAND_WIDTH] = command.into();
     let reply = apply_within(capacity, row, &cells, out);
+    answer_of(heap, reply, out)
+}
+
+// The same to a row that is known to be a store: it is not looked through.
+pub fn answer_sound(
+    heap: Global,
+    capacity: Capacity,
+    row: &mut [u64],
+    out: &mut [u64],
+    command: Command,
+) -> Result<Answer, AllocError>
+    requires { sound_row row.old ≡ true }
+    ensures answer { IfOk result (λ a. outcome_of a ≡ outcome_to capacity row.old (length out.old) command) }
+    ensures row { row.new ≡ row_then capacity row.old (length out.old) command }
+{
+    let cells: [u64; COMMAND_WIDTH] = command.into();
+    let reply = apply_sound(capacity, Search::FromFront, row, &cells, out);
     answer_of(heap, reply, out)
 }
 
