@@ -1,8 +1,10 @@
 -- What callers use of decoding in place of its text.
-use Rattle.std.proofs.Common.{◌≡◌, ℕ, zero, suc, ◌<◌, ◌≤◌, List, [], ◌∷◌, length, drop, IfSome, Some, None, Option, sym, refl, ap, ◌∙◌, subst, arith, length-drop}
+use Rattle.std.proofs.Common.{◌≡◌, ℕ, zero, suc, ◌+◌, ◌-◌, ◌<◌, ◌≤◌, List, [], ◌∷◌, length, drop, IfSome, Some, None, Option, sym, refl, ap, ◌∙◌, subst, arith, length-drop}
 use Rattle.std.proofs.lemmas.Bool.Decides.{nat_tests}
+use Rattle.std.proofs.lemmas.List.{drop-drop}
+use Rattle.std.specs.Option.{option_map}
 use Rattle.command.specs.declared.Command.{Command}
-use Rattle.feed.specs.Files.{commands, decoded, followed, parsed, unread}
+use Rattle.feed.specs.Files.{commands, decoded, decoded_at, ending, followed, parsed, unread}
 
 -- A command takes some bytes, and no more than there are.
 decoded_size : (bs : List ℕ) → IfSome (decoded bs) (λ d. (0 < d.1) × (d.1 ≤ length bs))
@@ -63,6 +65,35 @@ commands_end bs e = ap (λ (p : List Command × ℕ). p.0) (parsed_none (length 
 pub unread_end : (bs : List ℕ) → decoded bs ≡ None → unread bs ≡ length bs
 unfolding unread
 unread_end bs e = ap (λ (p : List Command × ℕ). p.1) (parsed_none (length bs) bs e)
+
+-- The same where the bytes are read from byte i on.
+at_some : (i : ℕ) (bs : List ℕ) (c : Command) (n : ℕ) (o : Option (Command × ℕ)) → option_map (ending i) o ≡ Some (c, n) → (k : ℕ) × (o ≡ Some (c, k)) × (i + k ≡ n)
+at_some i bs c n None e = let z : ◌≡◌ {A = ℕ} 0 1 = cc in absurd (omega arith)
+at_some i bs c n (Some d) e =
+    let p : ending i d ≡ (c, n) = cc in
+    (d.1, ap (λ (x : Command). Some (x, d.1)) (ap (λ (x : Command × ℕ). x.0) p), ap (λ (x : Command × ℕ). x.1) p)
+
+at_none : (i : ℕ) (o : Option (Command × ℕ)) → option_map (ending i) o ≡ None → o ≡ None
+at_none i None e = refl
+at_none i (Some d) e = let z : ◌≡◌ {A = ℕ} 0 1 = cc in absurd (omega arith)
+
+pub commands_from : (i : ℕ) (bs : List ℕ) (c : Command) (n : ℕ) → decoded_at i bs ≡ Some (c, n) → commands (drop i bs) ≡ c ∷ commands (drop n bs)
+commands_from i bs c n e =
+    let p = at_some i bs c n (decoded (drop i bs)) e in
+    let q : drop p.0 (drop i bs) ≡ drop n bs = drop-drop p.0 i bs ∙ ap (λ (m : ℕ). drop m bs) p.2 in
+    commands_next (drop i bs) c p.0 p.1 ∙ ap (λ (l : List ℕ). c ∷ commands l) q
+
+pub unread_from : (i : ℕ) (bs : List ℕ) (c : Command) (n : ℕ) → decoded_at i bs ≡ Some (c, n) → unread (drop i bs) ≡ unread (drop n bs)
+unread_from i bs c n e =
+    let p = at_some i bs c n (decoded (drop i bs)) e in
+    let q : drop p.0 (drop i bs) ≡ drop n bs = drop-drop p.0 i bs ∙ ap (λ (m : ℕ). drop m bs) p.2 in
+    unread_next (drop i bs) c p.0 p.1 ∙ ap unread q
+
+pub commands_from_end : (i : ℕ) (bs : List ℕ) → decoded_at i bs ≡ None → commands (drop i bs) ≡ []
+commands_from_end i bs e = commands_end (drop i bs) (at_none i (decoded (drop i bs)) e)
+
+pub unread_from_end : (i : ℕ) (bs : List ℕ) → decoded_at i bs ≡ None → unread (drop i bs) ≡ length bs - i
+unread_from_end i bs e = unread_end (drop i bs) (at_none i (decoded (drop i bs)) e) ∙ length-drop i bs
 
 -- No more bytes are left than there are.
 parsed_within : (n : ℕ) (bs : List ℕ) → (parsed n bs).1 ≤ length bs

@@ -1,5 +1,5 @@
 -- The ledger by card and day: its keys rise, and each line has the number and the sum of its visits.
-use Rattle.std.proofs.Common.{◌≡◌, ℕ, ◌+◌, ◌≤◌, Bool, true, false, cond, ◌&&◌, eqb, List, [], ◌∷◌, length, sum_by, filter, refl, ap, ◌∙◌, arith}
+use Rattle.std.proofs.Common.{◌≡◌, ℕ, ◌+◌, ◌-◌, ◌≤◌, Bool, true, false, cond, ◌&&◌, eqb, List, [], ◌∷◌, length, sum_by, filter, refl, ap, ◌∙◌, arith}
 use Rattle.std.specs.List.{AllByRecursion}
 use Rattle.std.proofs.ByRecursion.{All-weaker}
 use Rattle.std.proofs.lemmas.List.Sums.{sum_by-cons}
@@ -9,10 +9,11 @@ use Rattle.visit.specs.declared.Terms.{Terms}
 use Rattle.visit.specs.declared.Visit.{Visit}
 use Rattle.visit.specs.Lines.{line_before, line_of, line_plus, same_key}
 use Rattle.visit.specs.Order.{RisingBy}
-use Rattle.model.specs.Ledger.{add_line, add_visits, totals}
+use Rattle.model.specs.Ledger.{add_line, add_visits, take_line, take_visits, totals}
+use Rattle.model.specs.Store.{posted}
 use Rattle.model.specs.Unseen.{Lined, TotalsRight, entry, lines_for, visits_for}
 use Rattle.model.proofs.Common.{kept_none}
-use Rattle.model.proofs.Rising.{rising_line}
+use Rattle.model.proofs.Rising.{rising_line, rising_taken}
 use Rattle.model.proofs.Totals.{Filled, filled_line, line_parts, one_visit}
 
 -- Lines in order, each with visits.
@@ -37,6 +38,26 @@ lined_visits t (v ∷ vs) ls p = lined_visits t vs (add_line t (line_of t v) ls)
 single_line : (t : Terms) (v : Visit) → (line_of t v).visits ≡ 1
 unfolding line_of
 single_line t v = refl
+
+-- Taking a visit's line keeps it so too, and so does the whole of what a command does to a ledger.
+visits_left : (n m : ℕ) → 1 ≤ n → m ≡ 1 → eqb n m ≡ false → 1 ≤ n - m
+visits_left n m h o e = grind (arith, nat_tests)
+
+filled_taken : (t : Terms) (a : Line) (ls : List Line) → a.visits ≡ 1 → Filled ls → Filled (take_line t a ls)
+filled_taken t a [] h f = tt
+filled_taken t a (x ∷ xs) h f = grind (arith, nat_tests, filled_taken t a xs h f.1, visits_left x.visits a.visits f.0 h)
+
+pub lined_take : (t : Terms) (a : Line) (ls : List Line) → a.visits ≡ 1 → Lined t ls → Lined t (take_line t a ls)
+lined_take t a ls h p =
+    let both = lined_parts t ls p in
+    lined_of t (take_line t a ls) (filled_taken t a ls h both.0) (rising_taken t a ls both.1)
+
+pub lined_take_visits : (t : Terms) (vs : List Visit) (ls : List Line) → Lined t ls → Lined t (take_visits t vs ls)
+lined_take_visits t [] ls p = p
+lined_take_visits t (v ∷ vs) ls p = lined_take_visits t vs (take_line t (line_of t v) ls) (lined_take t (line_of t v) ls (single_line t v) p)
+
+pub lined_posted : (t : Terms) (gone new : List Visit) (ls : List Line) → Lined t ls → Lined t (posted t gone new ls)
+lined_posted t gone new ls p = lined_visits t new (take_visits t gone ls) (lined_take_visits t gone ls p)
 
 -- A line that is added adds its number of visits, or its sum, to what the lines of its key have.
 abbrev has_key : ℕ → ℕ → Line → Bool
