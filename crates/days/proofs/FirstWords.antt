@@ -70,8 +70,8 @@ begins [] inside = absurd (omega (arith, inside))
 begins (b ∷ bs) inside =
     split (blank b)
     (λ o. let at = passed (λ c. not (blank c)) b bs (ap not o) in
-      let ih = begins bs (omega (arith, inside, at)) in
-      record { first = ih.first; behind = ih.behind; is = ap (λ (n : ℕ). drop n (b ∷ bs)) at ∙ ih.is; word = ih.word })
+    let ih = begins bs (omega (arith, inside, at)) in
+    record { first = ih.first; behind = ih.behind; is = ap (λ (n : ℕ). drop n (b ∷ bs)) at ∙ ih.is; word = ih.word })
     (λ o. record { first = b; behind = bs; is = ap (λ (n : ℕ). drop n (b ∷ bs)) (stopped (λ c. not (blank c)) b bs (ap not o)); word = o })
 
 -- blanks alone have no word
@@ -84,10 +84,10 @@ pub first_cut : (xs ys : List ℕ) (n k : ℕ) → cond (ltb (position_or_len (�
 first_cut xs ys n k found is stop =
     split (ltb (position_or_len (λ b. not (blank b)) xs) (length xs))
     (λ o.
-      let h = begins xs (grind (arith, nat_tests)) in
-      let n' : n ≡ position_or_len (λ b. not (blank b)) xs = cc (simp o at found) in
-      let front : ys ≡ h.first ∷ h.behind = is ∙ ap (λ (i : ℕ). drop i xs) n' ∙ h.is in
-      words_from xs ∙ ap words h.is ∙ words_here h.first h.behind h.word ∙ cc (front, stop))
+    let h = begins xs (grind (arith, nat_tests)) in
+    let n' : n ≡ position_or_len (λ b. not (blank b)) xs = cc (simp o at found) in
+    let front : ys ≡ h.first ∷ h.behind = is ∙ ap (λ (i : ℕ). drop i xs) n' ∙ h.is in
+    words_from xs ∙ ap words h.is ∙ words_here h.first h.behind h.word ∙ cc (front, stop))
     (λ o. let z : None ≡ Some n = simp o at found in absurd (cc z))
 
 pub first_none : (xs : List ℕ) → cond (ltb (position_or_len (λ b. not (blank b)) xs) (length xs)) (Some (position_or_len (λ b. not (blank b)) xs)) None ≡ None → words xs ≡ []

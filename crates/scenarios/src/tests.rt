@@ -27,12 +27,6 @@ const fn reading(card: u64, time: u64, serial: u64, amount: u64) -> Command {
     })
 }
 
-const TERMS: Terms = Terms {
-    gap: 10,
-    lateness: 30,
-    day: 100,
-};
-
 #[test]
 fn worked_day(rt: HostRuntime) -> Result<(), Fail> {
     let heap = rt.alloc();
@@ -52,7 +46,14 @@ fn worked_day(rt: HostRuntime) -> Result<(), Fail> {
         (Command::Watermark(111), "+ 2 100 100 2 14\n"),
         (Command::Watermark(120), ""),
     ];
-    let mut sessions = Reference::new(heap, TERMS);
+    let mut sessions = Reference::new(
+        heap,
+        Terms {
+            gap: 10,
+            lateness: 30,
+            day: 100,
+        },
+    );
     for (command, expected) in rows {
         let answer = sessions.apply(heap, command)?;
         let mut text = String::new(heap);
@@ -73,6 +74,12 @@ const CHANGES: &str =
     "+ 1 5 12 2 5\n- 1 5 12 2 5\n+ 1 5 20 3 6\n- 1 5 20 3 6\n+ 1 5 33 5 15\nrefused 4 at 9\nrefused 5 at 27\nrefused 6 at 43\n+ 2 100 100 2 14\n";
 
 const LEDGER: &str = "card 1 day 0 visits 1 sum 15\ncard 2 day 1 visits 1 sum 14\n";
+
+const TERMS: Terms = Terms {
+    gap: 10,
+    lateness: 30,
+    day: 100,
+};
 
 // The cut is within a command.
 #[test]
