@@ -3,11 +3,29 @@ use Rattle.std.proofs.Common.{◌≡◌, ℕ, ◌+◌, ◌-◌, ◌*◌, ◌≤�
 use Rattle.std.proofs.lemmas.List.{append_assoc, drop_at, drop-drop, length-append, length-drop, length-replicate, length-take-le, replicate-append-replicate, take-append-drop}
 use Rattle.std.proofs.lemmas.Bool.{cases_lt}
 use Rattle.std.proofs.lemmas.Grind.{flat_map-append}
+use Rattle.std.proofs.lemmas.List.Edits.{length-between}
 use Rattle.std.specs.List.{between}
+use Rattle.rows.specs.Cells.{closed_up}
 use Rattle.rows.specs.Rows.{Laws, cells_of, holding, rows_in}
 use Rattle.rows.proofs.Copying.{length_cells}
+use Rattle.rows.proofs.Moved.{written_rest}
 use Rattle.rows.proofs.Products.{rows_left, rows_rise}
 use Rattle.rows.proofs.Splits.{cells_of_rows, drop_rows, length_rows, rows_of_cells, take_rows}
+
+-- Behind a row that was put in, and behind rows that have come nearer.
+pub inserted_rest : (a e w : ℕ) (xs zs : List ℕ) → a ≤ e → e + w ≤ length xs → length zs ≡ w
+    → drop (e + w) (take a xs ++ (zs ++ (between a e xs ++ drop (e + w) xs))) ≡ drop (e + w) xs
+inserted_rest a e w xs zs order within long =
+    let moved : length (between a e xs) ≡ e - a = length-between xs a e (omega arith) in
+    let fits : a + length (zs ++ between a e xs) ≡ e + w = rw (length-append zs (between a e xs), long, moved) (omega arith) in
+    rw (sym (append_assoc zs (between a e xs) (drop (e + w) xs))) (written_rest a (e + w) xs (zs ++ between a e xs) (omega arith) fits)
+
+pub removed_rest : (a e w : ℕ) (xs : List ℕ) → a + w ≤ e → e ≤ length xs → drop (e - w) (closed_up a e w xs) ≡ replicate w 0 ++ drop e xs
+removed_rest a e w xs h k =
+    let front : length (take a xs) ≡ a = length-take-le a xs (omega arith) in
+    let middle : length (between (a + w) e xs) ≡ e - (a + w) = length-between xs (a + w) e k in
+    ap (drop (e - w)) (sym (append_assoc (take a xs) (between (a + w) e xs) (replicate w 0 ++ drop e xs)))
+    ∙ drop_at (take a xs ++ between (a + w) e xs) (replicate w 0 ++ drop e xs) (e - w) (omega (arith, length-append (take a xs) (between (a + w) e xs)))
 
 -- Zeros and what stands behind them, from row k on of those from row j on.
 pub zeros_drop : (w j k most : ℕ) (xs : List ℕ) → j ≤ k → j ≤ most
