@@ -1,5 +1,5 @@
 -- The options after one word more.
-use Rattle.std.specs.Prelude.{◌≡◌, ℕ, true, false, List, Some, None, Ok, Err, codes, Option, Result, String, string_bytes}
+use Rattle.std.specs.Prelude.{◌≡◌, ℕ, Bool, cond, ◌&&◌, not, true, false, List, Some, None, Ok, Err, codes, Option, Result, String, string_bytes}
 use Rattle.std.specs.declared.alloc.Global.{Global}
 use Rattle.cli.specs.declared.flags.Flag.{Flag}
 use Rattle.cli.specs.declared.flags.Flag.TheVariants.{Help, Version, Strict, Unpack, Full, Unknown, Name}
@@ -27,6 +27,10 @@ noted o word (Ok Name) = with_file o o.file word
 -- What is noted of a word is what it is read as.
 abbrev pub Notes : Options → String Global → Result Options Usage → Type 0
 Notes o word r = (flag : Result Flag Usage) × Reads (string_bytes word) flag × (r ≡ noted o word flag)
+
+-- Not every program has --full.
+abbrev pub checked : (has_full : Bool) → Options → Result Options Usage
+checked has_full o = cond (o.full && not has_full) (Err UnknownOption) (Ok o)
 
 abbrev pub no_options : Options
 no_options = record { help = false; version = false; strict = false; unpack = false; full = false; file = None }

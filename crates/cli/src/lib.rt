@@ -10,7 +10,7 @@ ghost use Rattle.std.specs.Prelude.{◌≡◌, ◌==◌, slice_index};
 
 use anyhow::anyhow;
 use flags::Flag;
-use options::{Options, Usage};
+use options::Options;
 use source::Source;
 use std::io::Write;
 use std::process::ExitCode;
@@ -47,7 +47,10 @@ pub trait Tool {
 
     fn help(&self) -> &'static str;
 
-    fn has_full(&self) -> bool;
+    // Most programs have no --full.
+    fn has_full(&self) -> bool {
+        false
+    }
 
     // Writes to standard output, and says at which byte reading stopped, if it did before the end.
     fn process(
@@ -130,14 +133,11 @@ fn attempt<T: Tool>(rt: &HostRuntime, tool: &T) -> Result<(), Failure> {
     Ok(())
 }
 
-// The options of this run. One that only another program has is as unknown as any.
+// The options of this run.
 fn gather<T: Tool>(rt: &HostRuntime, tool: &T) -> anyhow::Result<Options> {
     let mut options = Options::none();
     for word in env::args(rt)?.skip(1) {
-        options = options.noted(word)?;
-        if options.full && !tool.has_full() {
-            return Err(Usage::UnknownOption.into());
-        }
+        options = options.noted(word)?.checked(tool.has_full())?;
     }
     Ok(options)
 }

@@ -1,5 +1,5 @@
 // The options of a run.
-ghost use Rattle.cli.specs.Noted.{Notes, no_options, usage_text};
+ghost use Rattle.cli.specs.Noted.{Notes, checked, no_options, usage_text};
 ghost use Rattle.std.specs.Prelude.{◌≡◌, Some};
 
 use crate::flags::Flag;
@@ -69,6 +69,17 @@ impl Options {
                 file: Some(word),
                 ..self
             }),
+        }
+    }
+
+    // An option that the program does not have is as unknown as any.
+    pub fn checked(self, has_full: bool) -> Result<Options, Usage>
+        ensures { result ≡ checked has_full self }
+    {
+        if self.full && !has_full {
+            Err(Usage::UnknownOption)
+        } else {
+            Ok(self)
         }
     }
 }

@@ -20,10 +20,6 @@ impl Tool for Packer {
         HELP
     }
 
-    fn has_full(&self) -> bool {
-        false
-    }
-
     fn process(
         &self,
         rt: &HostRuntime,

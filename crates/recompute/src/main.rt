@@ -20,10 +20,6 @@ impl Tool for Recompute {
         HELP
     }
 
-    fn has_full(&self) -> bool {
-        false
-    }
-
     // As in `settle`: two programs are asked for, and this one stays with the reference.
     fn process(
         &self,
