@@ -59,11 +59,13 @@ pub fn show_store(text: &mut String, store: &[u64], before: &[u64]) -> anyhow::R
     let mut count: usize = 0;
     text.push_str("  store")?;
     // The row is long, so that it is walked once: what is not printed is counted too.
-    for (i, x) in layout.iter().enumerate().filter(|cell| *cell.1 != 0) {
-        if count < SHOWN {
-            write!(text, " {i}={x}")?;
+    for (i, x) in layout.iter().enumerate() {
+        if *x != 0 {
+            count = count.saturating_add(1);
+            if count <= SHOWN {
+                write!(text, " {i}={x}")?;
+            }
         }
-        count = count.saturating_add(1);
     }
     end_line(text, layout, count, behind == cut(before, STORE_SIZE).1)
 }
